@@ -1,0 +1,6 @@
+-- Laws about the definitions.
+pub mod Bytes
+pub mod Begun
+pub mod CompareLaws
+pub mod Tests
+pub mod ScalarLaws

@@ -1,0 +1,20 @@
+-- The definitions, in document 01's order.
+pub mod Answer
+pub mod Tree
+pub mod Sheet
+pub mod Utf8
+pub mod TypeSheet
+pub mod ValueSheet
+pub mod Scalar
+pub mod Encode
+pub mod Read
+pub mod Decode
+pub mod Skip
+pub mod Order
+pub mod Bounds
+pub mod Replace
+pub mod Calls
+pub mod Book
+pub mod Fields
+pub mod Cursor
+pub mod Chars
