@@ -12,8 +12,8 @@ use lib.Pow.{pow-mono, pow-add}
 use Rattle.format.specs.Answer.{if}
 use Rattle.format.specs.Scalar.{be, width, uintBytes, negBytes, intBytes, magnitude, escaped}
 use Rattle.format.specs.Order.{then, cmpBytes, offset}
-use Rattle.format.proofs.Tests.{Test, holds, fails, ltb-test, eqb-test}
 use Rattle.format.proofs.CompareLaws.{less, more, alike, Tri, lower, equal, higher, tri, flip, then-assoc, cmpBytes-flip}
+use Rattle.format.proofs.Tests.{Test, holds, fails, ltb-test, eqb-test}
 
 -- ---- digits
 
@@ -100,7 +100,8 @@ same-way m n p q l e g = go (tri m n)
     go (equal h) = rw (h, e h, alike n) (sym (alike q))
     go (higher h) = rw (more h) (sym (more (g h)))
 
-pub uint-order : (m n : ℕ) → m < 2 ^ 64 → n < 2 ^ 64 → (r s : List ℕ) → cmpBytes (uintBytes m ++ r) (uintBytes n ++ s) ≡ then (compare m n) (cmpBytes r s)
+pub uint-order : (m n : ℕ) → m < 2 ^ 64 → n < 2 ^ 64 → (r s : List ℕ)
+    → cmpBytes (uintBytes m ++ r) (uintBytes n ++ s) ≡ then (compare m n) (cmpBytes r s)
 unfolding uintBytes cmpBytes
 uint-order m n hm hn r s = go (tri (width m) (width n))
   where
@@ -109,7 +110,8 @@ uint-order m n hm hn r s = go (tri (width m) (width n))
     go (equal e) = rw (e, alike (0x48 + width n)) (be-order (width n) m n (subst (λ (w : ℕ). m < 256 ^ w) e (wide m hm .above)) (wide n hn .above) r s)
     go (higher h) = rw (more {m = 0x48 + width m} {n = 0x48 + width n} (omega arith), more (width-lt n m hn hm h))
 
-pub neg-order : (m n : ℕ) → m < 2 ^ 64 → n < 2 ^ 64 → (r s : List ℕ) → cmpBytes (negBytes m ++ r) (negBytes n ++ s) ≡ then (compare n m) (cmpBytes r s)
+pub neg-order : (m n : ℕ) → m < 2 ^ 64 → n < 2 ^ 64 → (r s : List ℕ)
+    → cmpBytes (negBytes m ++ r) (negBytes n ++ s) ≡ then (compare n m) (cmpBytes r s)
 unfolding negBytes cmpBytes
 neg-order m n hm hn r s = go (tri (width m) (width n))
   where
@@ -129,7 +131,8 @@ neg-uint m n p h r s = rw (less {m = 0x48 - width m} {n = 0x48 + width n} (omega
 uint-neg : (m n : ℕ) → 0 < n → n < 2 ^ 64 → (r s : List ℕ) → cmpBytes (uintBytes m ++ r) (negBytes n ++ s) ≡ Ordering·gt
 uint-neg m n p h r s = rw (cmpBytes-flip (negBytes n ++ s) (uintBytes m ++ r), neg-uint n m p h s r)
 
-pub int-order : (w v : ℕ) → w < 2 ^ 64 → v < 2 ^ 64 → (r s : List ℕ) → cmpBytes (intBytes w ++ r) (intBytes v ++ s) ≡ then (compare (offset w) (offset v)) (cmpBytes r s)
+pub int-order : (w v : ℕ) → w < 2 ^ 64 → v < 2 ^ 64 → (r s : List ℕ)
+    → cmpBytes (intBytes w ++ r) (intBytes v ++ s) ≡ then (compare (offset w) (offset v)) (cmpBytes r s)
 unfolding intBytes
 int-order w v hw hv r s = go (ltb w (2 ^ 63)) (ltb v (2 ^ 63)) (ltb-test w (2 ^ 63)) (ltb-test v (2 ^ 63))
   where
@@ -151,6 +154,15 @@ Low r = (c : ℕ) (z : List ℕ) → cmpBytes r (0xFF ∷ c ∷ z) ≡ Ordering�
 pub low-cons : {m : ℕ} (r : List ℕ) → m < 0xFF → Low (m ∷ r)
 unfolding Low cmpBytes
 low-cons r h c z = rw (less h)
+
+pub low-nil : Low []
+unfolding Low cmpBytes
+low-nil c z = refl
+
+-- FF alone may follow a field too: it is the upper bound's end
+pub low-end : Low (0xFF ∷ [])
+unfolding Low cmpBytes
+low-end c z = refl
 
 -- what an escaped run begins with
 escaped-cons : (s r : List ℕ) → (c : ℕ) × (z : List ℕ) × (escaped s ++ r ≡ c ∷ z)

@@ -54,6 +54,9 @@ not-so (fails q) h = refl
 pub leb-yes : (m n : ℕ) → m ≤ n → leb m n ≡ true
 leb-yes m n h = yes (leb-test m n) (λ q. omega arith)
 
+pub leb-no : (m n : ℕ) → n < m → leb m n ≡ false
+leb-no m n h = not-so (leb-test m n) (λ q. omega arith)
+
 pub ltb-yes : (m n : ℕ) → m < n → ltb m n ≡ true
 ltb-yes m n h = yes (ltb-test m n) (λ q. omega arith)
 

@@ -1,10 +1,13 @@
 -- The ends of ranges of keys: strinc, above_field, and the two ends of the keys with the same first k fields.
-use Prim.Native.Nat.{ℕ, zero, suc}
+use Prim.Native.Nat.{ℕ, zero, suc, Ordering·lt, Ordering·gt}
+use mathlib.Core.Path.{_≡_}
+use mathlib.Core.Logic.{_≢_}
 use mathlib.Core.List.{List, [], _∷_, _++_}
 use lib.Dec.{eqb}
 use Rattle.format.specs.Answer.{if, Answer, ok, refused, NoBound}
 use Rattle.format.specs.Tree.{Vals}
 use Rattle.format.specs.Encode.{valsBytes}
+use Rattle.format.specs.Order.{cmpBytes}
 
 -- b in front of what is left, which drops b too where nothing is left and b is FF
 abbrev pub before : ℕ → List ℕ → List ℕ
@@ -48,3 +51,8 @@ rests (suc k) (Vals.AddVal v vs) = rests k vs
 -- the bytes of the first k fields: these values encoded bare at depth 0
 abbrev pub firstBytes : ℕ → Vals → List ℕ
 firstBytes k vs = valsBytes 0 (firsts k vs)
+
+-- a key lies at or above the lower end and below the upper one
+pub record Between (low high key : List ℕ) : Type 0 where
+  pub from-low : cmpBytes low key ≢ Ordering·gt
+  pub below-high : cmpBytes key high ≡ Ordering·lt

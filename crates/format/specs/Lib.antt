@@ -18,3 +18,4 @@ pub mod Book
 pub mod Fields
 pub mod Cursor
 pub mod Chars
+pub mod Demand3

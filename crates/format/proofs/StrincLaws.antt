@@ -1,0 +1,129 @@
+-- strinc: its answer is a byte string above every byte string that begins with the prefix, and it refuses exactly where there is none.
+use mathlib.Core.Path.{_≡_, refl, sym, _∙_}
+use mathlib.Core.Logic.{_≢_, _↔_}
+use mathlib.Core.Bool.{Bool, true, false}
+use mathlib.Core.List.{List, [], _∷_, _++_}
+use Prim.Native.Nat.{ℕ, zero, suc, _<_, compare, Ordering·lt}
+use native.Mathlib.Omega.{arith}
+use lib.Dec.{eqb, lit<}
+use lib.ListN.{length}
+use Rattle.format.specs.Answer.{Answer, ok, refused, if, NoBound}
+use Rattle.format.specs.Order.{then, cmpBytes}
+use Rattle.format.specs.Bounds.{before, trimmed, raised, raisedOr, strinc}
+use Rattle.format.proofs.Bytes.{AllBytes}
+use Rattle.format.proofs.CompareLaws.{less, more, alike, Tri, lower, equal, higher, tri}
+use Rattle.format.proofs.Tests.{Test, holds, fails, eqb-test}
+
+-- q is above every byte string that begins with p
+abbrev pub Above : List ℕ → List ℕ → Type 0
+Above p q = (s : List ℕ) → AllBytes s → cmpBytes (p ++ s) q ≡ Ordering·lt
+
+-- ---- byte by byte: b in front of the end of what follows; where that has none, one more than b, or none for FF
+
+abbrev endAfter : ℕ → Answer (List ℕ) → Answer (List ℕ)
+endAfter b (ok q) = ok (b ∷ q)
+endAfter b (refused n d) = if (eqb b 0xFF) (refused NoBound 0) (ok (suc b ∷ []))
+
+strinc-step : (b : ℕ) (p : List ℕ) → strinc (b ∷ p) ≡ endAfter b (strinc p)
+unfolding strinc trimmed raised
+strinc-step b p = go (trimmed p)
+  where
+    last : (c : Bool) → raisedOr (if c [] (b ∷ [])) ≡ if c (refused NoBound 0) (ok (suc b ∷ []))
+    last true = refl
+    last false = refl
+
+    go : (t : List ℕ) → raisedOr (before b t) ≡ endAfter b (raisedOr t)
+    go [] = last (eqb b 0xFF)
+    go (c ∷ s) = refl
+
+strinc-nil : strinc [] ≡ refused NoBound 0
+unfolding strinc trimmed
+strinc-nil = refl
+
+-- ---- what strinc answers
+
+-- no other refusal
+pub strinc-refusal : (p : List ℕ) (n d : ℕ) → strinc p ≡ refused n d → (n ≡ NoBound) × (d ≡ 0)
+unfolding strinc
+strinc-refusal p n d e = go (trimmed p) e
+  where
+    go : (t : List ℕ) → raisedOr t ≡ refused n d → (n ≡ NoBound) × (d ≡ 0)
+    go [] f = (cc, cc)
+    go (b ∷ t) f = absurd (let z : _≡_ {A = ℕ} 0 1 = cc in omega arith)
+
+pub strinc-above : (p q : List ℕ) → strinc p ≡ ok q → Above p q
+unfolding cmpBytes
+strinc-above [] q e s hs = cc (strinc-nil)
+strinc-above (b ∷ p) q e s hs = go (strinc p) refl (sym (strinc-step b p) ∙ e) (λ z f. strinc-above p z f s hs)
+  where
+    go : (a : Answer (List ℕ)) → strinc p ≡ a → endAfter b a ≡ ok q → ((z : List ℕ) → strinc p ≡ ok z → cmpBytes (p ++ s) z ≡ Ordering·lt)
+        → cmpBytes ((b ∷ p) ++ s) q ≡ Ordering·lt
+    go (ok z) f g ih = let eq : q ≡ b ∷ z = cc in rw (eq, alike b, ih z f)
+    go (refused n d) f g ih = step (eqb b 0xFF) g
+      where
+        step : (c : Bool) → if c (refused NoBound 0) (ok (suc b ∷ [])) ≡ ok q → cmpBytes ((b ∷ p) ++ s) q ≡ Ordering·lt
+        step true h = cc
+        step false h = let eq : q ≡ suc b ∷ [] = cc in rw (eq, less {m = b} {n = suc b} (omega arith))
+
+pub strinc-bytes : (p q : List ℕ) → AllBytes p → strinc p ≡ ok q → AllBytes q
+strinc-bytes [] q hp e = absurd (let z : _≡_ {A = ℕ} 0 1 = cc (strinc-nil) in omega arith)
+strinc-bytes (b ∷ p) q hp e = go (strinc p) refl (sym (strinc-step b p) ∙ e) (λ z f. strinc-bytes p z (hp .1) f)
+  where
+    go : (a : Answer (List ℕ)) → strinc p ≡ a → endAfter b a ≡ ok q → ((z : List ℕ) → strinc p ≡ ok z → AllBytes z) → AllBytes q
+    go (ok z) f g ih = let eq : q ≡ b ∷ z = cc in rw eq (hp .0, ih z f)
+    go (refused n d) f g ih = step (eqb b 0xFF) (eqb-test b 0xFF) g
+      where
+        step : (c : Bool) → Test (b ≡ 0xFF) (b ≢ 0xFF) c → if c (refused NoBound 0) (ok (suc b ∷ [])) ≡ ok q → AllBytes q
+        step _ (holds t) h = absurd (let z : _≡_ {A = ℕ} 0 1 = cc in omega arith)
+        step _ (fails t) h = let eq : q ≡ suc b ∷ [] = cc in rw eq (omega (arith, hp .0), tt)
+
+-- ---- where it refuses
+
+-- n times FF
+abbrev tops : ℕ → List ℕ
+tops zero = []
+tops (suc n) = 0xFF ∷ tops n
+
+tops-bytes : (n : ℕ) → AllBytes (tops n)
+tops-bytes zero = tt
+tops-bytes (suc n) = (lit< tt, tops-bytes n)
+
+-- as many FF as a byte string has bytes are not below it
+top : (q : List ℕ) → AllBytes q → cmpBytes (tops (length q)) q ≢ Ordering·lt
+unfolding cmpBytes
+top [] h e = let z : _≡_ {A = ℕ} 0 1 = cc in omega arith
+top (b ∷ q) h e = go (tri 0xFF b) (top q (h .1))
+  where
+    go : Tri 0xFF b → cmpBytes (tops (length q)) q ≢ Ordering·lt → ⊥
+    go (lower l) ih = omega (arith, h .0)
+    go (equal p) ih = ih (rw (sym p) at e)
+    go (higher l) ih = let z : _≡_ {A = ℕ} 0 1 = cc (more l) in omega arith
+
+-- a prefix that is refused has, for each byte string, one that begins with it and is not below
+reached : (p : List ℕ) (n d : ℕ) → strinc p ≡ refused n d → (q : List ℕ) → AllBytes q
+    → (s : List ℕ) × AllBytes s × (cmpBytes (p ++ s) q ≢ Ordering·lt)
+unfolding cmpBytes
+reached [] n d e q hq = (tops (length q), tops-bytes (length q), top q hq)
+reached (b ∷ p) n d e [] hq = ([], tt, λ f. let z : _≡_ {A = ℕ} 0 1 = cc in omega arith)
+reached (b ∷ p) n d e (c ∷ q) hq = go (strinc p) refl (sym (strinc-step b p) ∙ e) (λ m k f. reached p m k f q (hq .1))
+  where
+    go : (a : Answer (List ℕ)) → strinc p ≡ a → endAfter b a ≡ refused n d
+        → ((m k : ℕ) → strinc p ≡ refused m k → (s : List ℕ) × AllBytes s × (cmpBytes (p ++ s) q ≢ Ordering·lt))
+        → (s : List ℕ) × AllBytes s × (cmpBytes ((b ∷ p) ++ s) (c ∷ q) ≢ Ordering·lt)
+    go (ok z) f g ih = absurd (let z : _≡_ {A = ℕ} 0 1 = cc in omega arith)
+    go (refused m k) f g ih = (ih m k f .0, ih m k f .1, λ h. last (eqb b 0xFF) (eqb-test b 0xFF) g (tri b c) h)
+      where
+        last : (t : Bool) → Test (b ≡ 0xFF) (b ≢ 0xFF) t → if t (refused NoBound 0) (ok (suc b ∷ [])) ≡ refused n d → Tri b c
+            → then (compare b c) (cmpBytes (p ++ ih m k f .0) q) ≡ Ordering·lt → ⊥
+        last _ (fails l) x t h = let z : _≡_ {A = ℕ} 0 1 = cc in omega arith
+        last _ (holds l) x (lower u) h = omega (arith, hq .0)
+        last _ (holds l) x (equal u) h = ih m k f .2 (rw (u, alike c) at h)
+        last _ (holds l) x (higher u) h = let z : _≡_ {A = ℕ} 0 1 = cc (more u) in omega arith
+
+-- strinc refuses exactly when no byte string is above every byte string that begins with the prefix
+pub strinc-none : (p : List ℕ) → AllBytes p → (strinc p ≡ refused NoBound 0) ↔ ((q : List ℕ) → AllBytes q → Above p q → ⊥)
+strinc-none p hp = (λ e q hq up. let r = reached p NoBound 0 e q hq in r .2 (up (r .0) (r .1)), λ none. go (strinc p) refl none)
+  where
+    go : (a : Answer (List ℕ)) → strinc p ≡ a → ((q : List ℕ) → AllBytes q → Above p q → ⊥) → strinc p ≡ refused NoBound 0
+    go (ok q) e none = absurd (none q (strinc-bytes p q hp e) (strinc-above p q e))
+    go (refused n d) e none = let r = strinc-refusal p n d e in cc
