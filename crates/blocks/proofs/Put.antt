@@ -1,0 +1,73 @@
+-- Bytes put over a buffer, one after another, and a buffer that is written by a loop.
+use mathlib.Core.Path.{_≡_, refl, sym, _∙_}
+use mathlib.Core.List.{List, [], _∷_, _++_, append-assoc}
+use Prim.Native.Nat.{ℕ, suc, _+_, _≤_, _<_}
+use native.Mathlib.Nat.{add-zero, add-assoc}
+use native.Mathlib.Numerals.{add-one}
+use native.Mathlib.Omega.{arith}
+use lib.ListN.{length, set, take, drop, take-append-drop, length-append, length-take, length-drop, length-set}
+use lib.Seq.{length-take-le, take-at, drop-at, drop-drop, set-split, take-set-le}
+use Rattle.format.specs.Fields.{put}
+
+-- what stands from a place on, after a store there
+drop-set-here : (d : List ℕ) (n b : ℕ) → n < length d → drop n (set d n b) ≡ b ∷ drop (suc n) d
+drop-set-here d n b h = rw (set-split d n b h, drop-at (take n d) (b ∷ drop (suc n) d) n (length-take-le n d (omega arith)))
+
+module _ (d : List ℕ) (at : ℕ) where
+  pub put-none : put d at [] ≡ d
+  put-none = rw add-zero (take-append-drop at d)
+
+  pub length-put : (s : List ℕ) → at + length s ≤ length d → length (put d at s) ≡ length d
+  length-put s h = simp (length-append, length-take, length-drop) (omega arith)
+
+  -- a store behind what is to be put
+  pub put-snoc : (s : List ℕ) (b : ℕ) → at + length s < length d → put (set d (at + length s) b) at s ≡ put d at (s ++ (b ∷ []))
+  put-snoc s b h =
+      let le : at ≤ at + length s = omega arith in
+      rw (take-set-le at d (at + length s) b le, drop-set-here d (at + length s) b h, length-append, ← add-assoc, add-one, append-assoc)
+
+  -- a put behind a put
+  pub put-put : (s t : List ℕ) → at + length s + length t ≤ length d → put (put d at s) (at + length s) t ≡ put d at (s ++ t)
+  put-put s t h =
+      let seam : take at d ++ (s ++ drop (at + length s) d) ≡ (take at d ++ s) ++ drop (at + length s) d = sym (append-assoc (take at d) s _) in
+      let n : length (take at d ++ s) ≡ at + length s = simp (length-append, length-take) (omega arith) in
+      rw (← drop-drop (length t) (at + length s), seam, take-at _ _ _ n, drop-at _ _ _ n, drop-drop, append-assoc (take at d) s, append-assoc s t, length-append, add-assoc)
+
+-- a store is a put
+pub set-put : (d : List ℕ) (i b : ℕ) → i < length d → set d i b ≡ put d i (b ∷ [])
+set-put d i b h = rw add-one (set-split d i b h)
+
+-- a store, and a put behind it
+pub set-put-cons : (d : List ℕ) (i b : ℕ) (t : List ℕ) → i + 1 + length t ≤ length d → put (set d i b) (i + 1) t ≡ put d i (b ∷ t)
+set-put-cons d i b t h = rw (set-put d i b (omega arith)) (put-put d i (b ∷ []) t h)
+
+-- ---- a buffer that is written from the front, as a loop's invariant says it: what is left to be put makes the whole
+
+-- with t put from o on, the buffer d is d₀ with s put from at on
+pub record Left (d₀ : List ℕ) (at : ℕ) (s d : List ℕ) (o : ℕ) (t : List ℕ) : Type 0 where
+  pub long : length d ≡ length d₀
+  pub ends : o + length t ≡ at + length s
+  pub whole : put d o t ≡ put d₀ at s
+
+pub left-all : (d : List ℕ) (at : ℕ) (s : List ℕ) → Left d at s d at s
+left-all d at s = record { long = refl; ends = refl; whole = refl }
+
+pub left-store : {d₀ : List ℕ} {at : ℕ} {s d : List ℕ} {o b : ℕ} {t : List ℕ} → at + length s ≤ length d₀ → Left d₀ at s d o (b ∷ t) → Left d₀ at s (set d o b) (o + 1) t
+left-store {d = d} {o = o} {b = b} {t = t} h l =
+    record { long = simp length-set (l .long); ends = omega arith; whole = set-put-cons d o b t (omega arith) ∙ l .whole }
+
+-- a chunk that is put, before what is left
+pub left-chunk : {d₀ : List ℕ} {at : ℕ} {s d d′ : List ℕ} {o m : ℕ} (c : List ℕ) {t : List ℕ} → at + length s ≤ length d₀ → Left d₀ at s d o (c ++ t) → d′ ≡ put d o c → length c ≡ m
+    → Left d₀ at s d′ (o + m) t
+left-chunk {d₀} {at} {s} {d} {d′} {o} {m} c {t} h l p q =
+    let a = length-append c t in
+    let e = l .ends in
+    let g = l .long in
+    record {
+      long = rw (p, length-put d o c (omega arith)) (l .long);
+      ends = omega arith;
+      whole = rw (p, ← q) (put-put d o c t (omega arith) ∙ l .whole);
+    }
+
+pub left-none : {d₀ : List ℕ} {at : ℕ} {s d : List ℕ} {o : ℕ} → Left d₀ at s d o [] → d ≡ put d₀ at s
+left-none {d = d} {o = o} l = sym (put-none d o) ∙ l .whole

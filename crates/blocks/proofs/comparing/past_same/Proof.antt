@@ -1,0 +1,39 @@
+-- `past_same` meets its contract.
+use borrow.Author.Needs.{needs}
+use mathlib.Core.Path.{_≡_}
+use Prim.Native.Nat.{_+_, _-_, _≤_}
+use native.Mathlib.Omega.{arith}
+use lib.ListN.{length, getD}
+use Rattle.blocks.specs.Compare.{Same}
+use Rattle.blocks.proofs.Spans.{span-join}
+use Rattle.blocks.proofs.comparing.past_same.Statement.{statement}
+use Rattle.blocks.proofs.comparing.past_same.Tie as tie
+
+abbrev Inv-loop : tie.InvT-loop
+Inv-loop a b from k i₀ i = (from ≤ i) × (i ≤ length a) × (i ≤ length b) × Same a b from i
+
+abbrev μ-loop : tie.MeasureT-loop
+μ-loop a b from k i₀ i = length a - i
+
+loop-holds : tie.Need-loop-holds Inv-loop μ-loop
+loop-holds c = (omega arith, omega arith, omega arith, λ k a b. absurd (omega arith))
+
+same-requires : tie.Need-same-requires Inv-loop μ-loop
+same-requires c κs = search needs
+
+add-i : tie.Need-add-i Inv-loop μ-loop
+add-i c = let e = c .before .same .ensures (c .if1 .taken) in omega arith
+
+loop-less : tie.Need-loop-less Inv-loop μ-loop
+loop-less c = let e = c .before .same .ensures (c .if1 .taken) in omega arith
+
+loop-again : tie.Need-loop-again Inv-loop μ-loop
+loop-again c = let e = c .before .same .ensures (c .if1 .taken) in (omega arith, omega arith, omega arith, span-join (λ k. getD (c .before .before .before .before .before .args .a .now) k 0 ≡ getD (c .before .before .before .before .before .args .b .now) k 0) (c .before .before .before .before .before .args .from) (c .before .before .loop .i) (c .before .before .loop .i + c .before .before .before .before .before .args .k) (c .before .before .loop .inv .3) (e .2))
+
+returns : tie.Need-returns Inv-loop μ-loop
+returns c = c .before .before .loop .inv
+
+pub past-same-spec : {M : Type 1} → statement M
+past-same-spec =
+    tie.close
+    (tie.spec Inv-loop μ-loop loop-holds same-requires add-i loop-less loop-again returns)

@@ -1,0 +1,59 @@
+-- `zero_from` meets its contract.
+use borrow.Author.Needs.{needs}
+use mathlib.Core.Path.{_≡_}
+use Prim.Native.Nat.{_-_, _≤_}
+use native.Mathlib.Omega.{arith}
+use lib.ListN.{length, getD}
+use Rattle.blocks.specs.Zeros.{NoZero}
+use Rattle.blocks.proofs.Spans.{span-one, span-join}
+use Rattle.blocks.proofs.zeros.zero_from.Statement.{statement}
+use Rattle.blocks.proofs.zeros.zero_from.Tie as tie
+
+abbrev Inv-loop : tie.InvT-loop
+Inv-loop s from wide i₀ i = (from ≤ i) × (i ≤ length s) × NoZero s from i
+
+abbrev μ-loop : tie.MeasureT-loop
+μ-loop s from wide i₀ i = length s - i
+
+past-clear-requires : tie.Need-past-clear-requires Inv-loop μ-loop
+past-clear-requires c κs = search needs
+
+past-clear-requires-2 : tie.Need-past-clear-requires-2 Inv-loop μ-loop
+past-clear-requires-2 c κs = search needs
+
+loop-holds : tie.Need-loop-holds Inv-loop μ-loop
+loop-holds c = (omega arith, omega arith, span-join (λ k. getD (c .before .before .before .args .s .now) k 0 ≡ 0 → ⊥) (c .before .before .before .args .from) (c .before .past-clear .result) (c .past-clear2 .result) (c .before .past-clear .ensures .2) (c .past-clear2 .ensures .2))
+
+shared-slice-read-if1 : tie.Need-shared-slice-read-if1 Inv-loop μ-loop
+shared-slice-read-if1 c = omega arith
+
+returns : tie.Need-returns Inv-loop μ-loop
+returns c = record { after = c .before .before .before .loop .inv .0; inside = c .before .before .before .loop .inv .1; none = c .before .before .before .loop .inv .2; zero = λ h. c .if1 .taken }
+
+add-i : tie.Need-add-i Inv-loop μ-loop
+add-i c = omega arith
+
+loop-less : tie.Need-loop-less Inv-loop μ-loop
+loop-less c = omega arith
+
+loop-again : tie.Need-loop-again Inv-loop μ-loop
+loop-again c = (omega arith, omega arith, span-one (λ k. getD (c .before .before .before .before .before .before .before .args .s .now) k 0 ≡ 0 → ⊥) (c .before .before .before .before .before .before .before .args .from) (c .before .before .before .loop .i) (c .before .before .before .loop .inv .2) (c .if1 .left))
+
+returns-2 : tie.Need-returns-2 Inv-loop μ-loop
+returns-2 c = record { after = c .before .loop .inv .0; inside = c .before .loop .inv .1; none = c .before .loop .inv .2; zero = λ h. absurd (omega arith) }
+
+pub zero-from-spec : {M : Type 1} → statement M
+zero-from-spec =
+    tie.close
+    (tie.spec
+    Inv-loop
+    μ-loop
+    past-clear-requires
+    past-clear-requires-2
+    loop-holds
+    shared-slice-read-if1
+    returns
+    add-i
+    loop-less
+    loop-again
+    returns-2)

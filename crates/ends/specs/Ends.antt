@@ -1,0 +1,26 @@
+-- What the contracts of strinc and above_field cite beside the calls of format.
+use mathlib.Core.Path.{_≡_}
+use mathlib.Core.List.{List}
+use Prim.Native.Nat.{ℕ, _-_, _≤_, _<_}
+use lib.ListN.{length, take, getD}
+use Rattle.format.specs.Answer.{Answer, ok, refused}
+use Rattle.format.specs.Bounds.{trimmed}
+use Rattle.format.specs.Calls.{Called}
+use Rattle.ends.specs.declared.Written.{Written}
+use Rattle.ends.specs.declared.Written.the-variants.{Done, Refused}
+
+-- the answer by document 01's numbers
+abbrev pub writtenOf : Written → Answer ℕ
+writtenOf (Done n) = ok n
+writtenOf (Refused n d) = refused n d
+
+-- the answer and the buffer are those of a definition's call
+pub record Leaves (c : Called ℕ) (r : Written) (buffer : List ℕ) : Type 0 where
+  pub answer : writtenOf r ≡ c .answer
+  pub left : buffer ≡ c .buffer
+
+-- n bytes of a prefix are left without its trailing FF
+pub record Trims (p : List ℕ) (n : ℕ) : Type 0 where
+  pub short : n ≤ length p
+  pub left : trimmed p ≡ take n p
+  pub last : 0 < n → getD p (n - 1) 0 ≡ 0xFF → ⊥

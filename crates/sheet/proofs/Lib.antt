@@ -1,0 +1,7 @@
+-- What the proofs of several functions use.
+pub mod EndLaws
+mod TypeWalk
+mod AdmitType
+mod AltWalk
+mod ValueWalk
+mod AdmitValue

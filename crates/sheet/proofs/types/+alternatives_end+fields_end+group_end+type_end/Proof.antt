@@ -1,0 +1,343 @@
+use borrow.Author.Needs.{needs}
+use native.Mathlib.Omega.{arith}
+use Rattle.sheet.proofs.TypeWalk.{none-left, zero-kind, scalar, short, unknown, reference, too-deep, record-end, union-end, Fields, fields-start, fields-done, fields-fail, fields-go, Others, alts-start, alts-done, alts-fail, alts-go, alts-out}
+use Prim.Native.Nat.{ℕ, _+_, _*_, _<_}
+use borrow.Fn.Kinds.{In}
+use borrow.Fn.PlainCycle.{Measures, is, falls, and}
+use Rattle.sheet.proofs.types.alternatives_end.Reads as alternatives-end
+use Rattle.sheet.proofs.types.alternatives_end.Kinds as alternatives-end-kinds
+use Rattle.sheet.proofs.types.+alternatives_end+fields_end+group_end+type_end.Lts-alternatives_end as alternatives-end-lts
+use Rattle.sheet.proofs.types.fields_end.Reads as fields-end
+use Rattle.sheet.proofs.types.fields_end.Kinds as fields-end-kinds
+use Rattle.sheet.proofs.types.+alternatives_end+fields_end+group_end+type_end.Lts-fields_end as fields-end-lts
+use Rattle.sheet.proofs.types.group_end.Reads as group-end
+use Rattle.sheet.proofs.types.group_end.Kinds as group-end-kinds
+use Rattle.sheet.proofs.types.+alternatives_end+fields_end+group_end+type_end.Lts-group_end as group-end-lts
+use Rattle.sheet.proofs.types.type_end.Reads as type-end
+use Rattle.sheet.proofs.types.type_end.Kinds as type-end-kinds
+use Rattle.sheet.proofs.types.+alternatives_end+fields_end+group_end+type_end.Lts-type_end as type-end-lts
+use Rattle.sheet.proofs.types.+alternatives_end+fields_end+group_end+type_end.{statement}
+use Rattle.sheet.proofs.types.+alternatives_end+fields_end+group_end+type_end.Tie.{close}
+
+abbrev μ-alternatives-end : Measures 1 alternatives-end-kinds.ps ℕ
+μ-alternatives-end κs a = 3 * a .1 .1 .1 .0 + 2
+
+abbrev μ-fields-end : Measures 1 fields-end-kinds.ps ℕ
+μ-fields-end κs a = 3 * a .1 .1 .1 .0 + 2
+
+abbrev μ-group-end : Measures 1 group-end-kinds.ps ℕ
+μ-group-end κs a = 3 * a .1 .1 .0
+
+abbrev μ-type-end : Measures 1 type-end-kinds.ps ℕ
+μ-type-end κs a = 3 * a .1 .1 .0 + 1
+
+abbrev alternatives-end-at : ℕ → In 1 alternatives-end-kinds.ps
+alternatives-end-at t =
+    and
+    1
+    alternatives-end-kinds.ps
+    (is 1 alternatives-end-kinds.ps μ-alternatives-end t)
+    alternatives-end.Pre
+
+abbrev alternatives-end-below : ℕ → In 1 alternatives-end-kinds.ps
+alternatives-end-below t =
+    and
+    1
+    alternatives-end-kinds.ps
+    (falls 1 alternatives-end-kinds.ps _<_ μ-alternatives-end t)
+    alternatives-end.Pre
+
+abbrev fields-end-at : ℕ → In 1 fields-end-kinds.ps
+fields-end-at t =
+    and 1 fields-end-kinds.ps (is 1 fields-end-kinds.ps μ-fields-end t) fields-end.Pre
+
+abbrev fields-end-below : ℕ → In 1 fields-end-kinds.ps
+fields-end-below t =
+    and 1 fields-end-kinds.ps (falls 1 fields-end-kinds.ps _<_ μ-fields-end t) fields-end.Pre
+
+abbrev group-end-at : ℕ → In 1 group-end-kinds.ps
+group-end-at t = and 1 group-end-kinds.ps (is 1 group-end-kinds.ps μ-group-end t) group-end.Pre
+
+abbrev group-end-below : ℕ → In 1 group-end-kinds.ps
+group-end-below t =
+    and 1 group-end-kinds.ps (falls 1 group-end-kinds.ps _<_ μ-group-end t) group-end.Pre
+
+abbrev type-end-at : ℕ → In 1 type-end-kinds.ps
+type-end-at t = and 1 type-end-kinds.ps (is 1 type-end-kinds.ps μ-type-end t) type-end.Pre
+
+abbrev type-end-below : ℕ → In 1 type-end-kinds.ps
+type-end-below t =
+    and 1 type-end-kinds.ps (falls 1 type-end-kinds.ps _<_ μ-type-end t) type-end.Pre
+
+abbrev alternatives-end-Inv-loop : alternatives-end-lts.InvT-loop
+alternatives-end-Inv-loop ty at count groups left₀ place₀ left place = Others ty at count groups left place
+
+abbrev alternatives-end-μ-loop : alternatives-end-lts.MeasureT-loop
+alternatives-end-μ-loop ty at count groups left₀ place₀ left place = left
+
+alternatives-end-loop-holds : (t : ℕ) → alternatives-end-lts.Need-loop-holds (type-end-below t, type-end.Post) (alternatives-end-at t) alternatives-end.Post alternatives-end-Inv-loop alternatives-end-μ-loop
+alternatives-end-loop-holds t c = search alts-start
+
+alternatives-end-returns : (t : ℕ) → alternatives-end-lts.Need-returns (type-end-below t, type-end.Post) (alternatives-end-at t) alternatives-end.Post alternatives-end-Inv-loop alternatives-end-μ-loop
+alternatives-end-returns t c = search alts-out
+
+alternatives-end-add-type-end : (t : ℕ) → alternatives-end-lts.Need-add-type-end (type-end-below t, type-end.Post) (alternatives-end-at t) alternatives-end.Post alternatives-end-Inv-loop alternatives-end-μ-loop
+alternatives-end-add-type-end t c = search needs
+
+alternatives-end-type-end-requires : (t : ℕ) → alternatives-end-lts.Need-type-end-requires (type-end-below t, type-end.Post) (alternatives-end-at t) alternatives-end.Post alternatives-end-Inv-loop alternatives-end-μ-loop
+alternatives-end-type-end-requires t c κs = (omega arith, tt)
+
+alternatives-end-returns-2 : (t : ℕ) → alternatives-end-lts.Need-returns-2 (type-end-below t, type-end.Post) (alternatives-end-at t) alternatives-end.Post alternatives-end-Inv-loop alternatives-end-μ-loop
+alternatives-end-returns-2 t c = search alts-fail
+
+alternatives-end-sub-left : (t : ℕ) → alternatives-end-lts.Need-sub-left (type-end-below t, type-end.Post) (alternatives-end-at t) alternatives-end.Post alternatives-end-Inv-loop alternatives-end-μ-loop
+alternatives-end-sub-left t c = search needs
+
+alternatives-end-loop-less : (t : ℕ) → alternatives-end-lts.Need-loop-less (type-end-below t, type-end.Post) (alternatives-end-at t) alternatives-end.Post alternatives-end-Inv-loop alternatives-end-μ-loop
+alternatives-end-loop-less t c = search needs
+
+alternatives-end-loop-again : (t : ℕ) → alternatives-end-lts.Need-loop-again (type-end-below t, type-end.Post) (alternatives-end-at t) alternatives-end.Post alternatives-end-Inv-loop alternatives-end-μ-loop
+alternatives-end-loop-again t c = search alts-go
+
+alternatives-end-returns-3 : (t : ℕ) → alternatives-end-lts.Need-returns-3 (type-end-below t, type-end.Post) (alternatives-end-at t) alternatives-end.Post alternatives-end-Inv-loop alternatives-end-μ-loop
+alternatives-end-returns-3 t c = search alts-done
+
+abbrev fields-end-Inv-loop : fields-end-lts.InvT-loop
+fields-end-Inv-loop ty at count groups left₀ place₀ left place = Fields ty at count groups left place
+
+abbrev fields-end-μ-loop : fields-end-lts.MeasureT-loop
+fields-end-μ-loop ty at count groups left₀ place₀ left place = left
+
+fields-end-loop-holds :
+    (t : ℕ) →
+    fields-end-lts.Need-loop-holds
+    (type-end-below t, type-end.Post)
+    (fields-end-at t)
+    fields-end.Post
+    fields-end-Inv-loop
+    fields-end-μ-loop
+fields-end-loop-holds t c = search fields-start
+
+fields-end-type-end-requires : (t : ℕ) → fields-end-lts.Need-type-end-requires (type-end-below t, type-end.Post) (fields-end-at t) fields-end.Post fields-end-Inv-loop fields-end-μ-loop
+fields-end-type-end-requires t c κs = (omega arith, tt)
+
+fields-end-returns :
+    (t : ℕ) →
+    fields-end-lts.Need-returns
+    (type-end-below t, type-end.Post)
+    (fields-end-at t)
+    fields-end.Post
+    fields-end-Inv-loop
+    fields-end-μ-loop
+fields-end-returns t c = search fields-fail
+
+fields-end-sub-left :
+    (t : ℕ) →
+    fields-end-lts.Need-sub-left
+    (type-end-below t, type-end.Post)
+    (fields-end-at t)
+    fields-end.Post
+    fields-end-Inv-loop
+    fields-end-μ-loop
+fields-end-sub-left t c = search needs
+
+fields-end-loop-less :
+    (t : ℕ) →
+    fields-end-lts.Need-loop-less
+    (type-end-below t, type-end.Post)
+    (fields-end-at t)
+    fields-end.Post
+    fields-end-Inv-loop
+    fields-end-μ-loop
+fields-end-loop-less t c = search needs
+
+fields-end-loop-again :
+    (t : ℕ) →
+    fields-end-lts.Need-loop-again
+    (type-end-below t, type-end.Post)
+    (fields-end-at t)
+    fields-end.Post
+    fields-end-Inv-loop
+    fields-end-μ-loop
+fields-end-loop-again t c = search fields-go
+
+fields-end-returns-2 :
+    (t : ℕ) →
+    fields-end-lts.Need-returns-2
+    (type-end-below t, type-end.Post)
+    (fields-end-at t)
+    fields-end.Post
+    fields-end-Inv-loop
+    fields-end-μ-loop
+fields-end-returns-2 t c = search fields-done
+
+group-end-returns : (t : ℕ) → group-end-lts.Need-returns (fields-end-below t, fields-end.Post, alternatives-end-below t, alternatives-end.Post) (group-end-at t) group-end.Post
+group-end-returns t c = search too-deep
+
+group-end-mul-kind : (t : ℕ) → group-end-lts.Need-mul-kind (fields-end-below t, fields-end.Post, alternatives-end-below t, alternatives-end.Post) (group-end-at t) group-end.Post
+group-end-mul-kind t c = search needs
+
+group-end-shared-slice-read-kind : (t : ℕ) → group-end-lts.Need-shared-slice-read-kind (fields-end-below t, fields-end.Post, alternatives-end-below t, alternatives-end.Post) (group-end-at t) group-end.Post
+group-end-shared-slice-read-kind t c = search needs
+
+group-end-add-count : (t : ℕ) → group-end-lts.Need-add-count (fields-end-below t, fields-end.Post, alternatives-end-below t, alternatives-end.Post) (group-end-at t) group-end.Post
+group-end-add-count t c = search needs
+
+group-end-mul-count : (t : ℕ) → group-end-lts.Need-mul-count (fields-end-below t, fields-end.Post, alternatives-end-below t, alternatives-end.Post) (group-end-at t) group-end.Post
+group-end-mul-count t c = search needs
+
+group-end-shared-slice-read-count : (t : ℕ) → group-end-lts.Need-shared-slice-read-count (fields-end-below t, fields-end.Post, alternatives-end-below t, alternatives-end.Post) (group-end-at t) group-end.Post
+group-end-shared-slice-read-count t c = search needs
+
+group-end-add-fields-end : (t : ℕ) → group-end-lts.Need-add-fields-end (fields-end-below t, fields-end.Post, alternatives-end-below t, alternatives-end.Post) (group-end-at t) group-end.Post
+group-end-add-fields-end t c = search needs
+
+group-end-sub-fields-end : (t : ℕ) → group-end-lts.Need-sub-fields-end (fields-end-below t, fields-end.Post, alternatives-end-below t, alternatives-end.Post) (group-end-at t) group-end.Post
+group-end-sub-fields-end t c = search needs
+
+group-end-fields-end-requires : (t : ℕ) → group-end-lts.Need-fields-end-requires (fields-end-below t, fields-end.Post, alternatives-end-below t, alternatives-end.Post) (group-end-at t) group-end.Post
+group-end-fields-end-requires t c κs = (omega arith, omega arith)
+
+group-end-returns-2 : (t : ℕ) → group-end-lts.Need-returns-2 (fields-end-below t, fields-end.Post, alternatives-end-below t, alternatives-end.Post) (group-end-at t) group-end.Post
+group-end-returns-2 t c = search record-end
+
+group-end-add-alternatives-end : (t : ℕ) → group-end-lts.Need-add-alternatives-end (fields-end-below t, fields-end.Post, alternatives-end-below t, alternatives-end.Post) (group-end-at t) group-end.Post
+group-end-add-alternatives-end t c = search needs
+
+group-end-sub-alternatives-end : (t : ℕ) → group-end-lts.Need-sub-alternatives-end (fields-end-below t, fields-end.Post, alternatives-end-below t, alternatives-end.Post) (group-end-at t) group-end.Post
+group-end-sub-alternatives-end t c = search needs
+
+group-end-alternatives-end-requires : (t : ℕ) → group-end-lts.Need-alternatives-end-requires (fields-end-below t, fields-end.Post, alternatives-end-below t, alternatives-end.Post) (group-end-at t) group-end.Post
+group-end-alternatives-end-requires t c κs = (omega arith, omega arith)
+
+group-end-returns-3 : (t : ℕ) → group-end-lts.Need-returns-3 (fields-end-below t, fields-end.Post, alternatives-end-below t, alternatives-end.Post) (group-end-at t) group-end.Post
+group-end-returns-3 t c = search union-end
+
+group-end-returns-4 : (t : ℕ) → group-end-lts.Need-returns-4 (fields-end-below t, fields-end.Post, alternatives-end-below t, alternatives-end.Post) (group-end-at t) group-end.Post
+group-end-returns-4 t c = search unknown
+
+type-end-returns :
+    (t : ℕ) →
+    type-end-lts.Need-returns (group-end-below t, group-end.Post) (type-end-at t) type-end.Post
+type-end-returns t c = search none-left
+
+type-end-mul-kind :
+    (t : ℕ) →
+    type-end-lts.Need-mul-kind (group-end-below t, group-end.Post) (type-end-at t) type-end.Post
+type-end-mul-kind t c = search needs
+
+type-end-shared-slice-read-kind : (t : ℕ) → type-end-lts.Need-shared-slice-read-kind (group-end-below t, group-end.Post) (type-end-at t) type-end.Post
+type-end-shared-slice-read-kind t c = search needs
+
+type-end-returns-2 :
+    (t : ℕ) →
+    type-end-lts.Need-returns-2 (group-end-below t, group-end.Post) (type-end-at t) type-end.Post
+type-end-returns-2 t c = search zero-kind
+
+type-end-add-result :
+    (t : ℕ) →
+    type-end-lts.Need-add-result (group-end-below t, group-end.Post) (type-end-at t) type-end.Post
+type-end-add-result t c = search needs
+
+type-end-returns-3 :
+    (t : ℕ) →
+    type-end-lts.Need-returns-3 (group-end-below t, group-end.Post) (type-end-at t) type-end.Post
+type-end-returns-3 t c = search scalar
+
+type-end-sub-if4 :
+    (t : ℕ) →
+    type-end-lts.Need-sub-if4 (group-end-below t, group-end.Post) (type-end-at t) type-end.Post
+type-end-sub-if4 t c = search needs
+
+type-end-returns-4 :
+    (t : ℕ) →
+    type-end-lts.Need-returns-4 (group-end-below t, group-end.Post) (type-end-at t) type-end.Post
+type-end-returns-4 t c = search short
+
+type-end-add-result-2 : (t : ℕ) → type-end-lts.Need-add-result-2 (group-end-below t, group-end.Post) (type-end-at t) type-end.Post
+type-end-add-result-2 t c = search needs
+
+type-end-returns-5 :
+    (t : ℕ) →
+    type-end-lts.Need-returns-5 (group-end-below t, group-end.Post) (type-end-at t) type-end.Post
+type-end-returns-5 t c = search reference
+
+type-end-group-end-requires : (t : ℕ) → type-end-lts.Need-group-end-requires (group-end-below t, group-end.Post) (type-end-at t) type-end.Post
+type-end-group-end-requires t c κs = (omega arith, (omega arith, omega arith))
+
+type-end-returns-6 :
+    (t : ℕ) →
+    type-end-lts.Need-returns-6 (group-end-below t, group-end.Post) (type-end-at t) type-end.Post
+type-end-returns-6 t c = search needs
+
+pub +alternatives-end+fields-end+group-end+type-end-spec : {M : Type 1} → statement M
++alternatives-end+fields-end+group-end+type-end-spec =
+    close μ-alternatives-end μ-fields-end μ-group-end μ-type-end (λ t. alternatives-end-lts.spec (
+      type-end-below t,
+      type-end.Post,
+    )
+    (alternatives-end-at t)
+    alternatives-end.Post
+    alternatives-end-Inv-loop
+    alternatives-end-μ-loop
+    (alternatives-end-loop-holds t)
+    (alternatives-end-returns t)
+    (alternatives-end-add-type-end t)
+    (alternatives-end-type-end-requires t)
+    (alternatives-end-returns-2 t)
+    (alternatives-end-sub-left t)
+    (alternatives-end-loop-less t)
+    (alternatives-end-loop-again t)
+    (alternatives-end-returns-3 t))
+    (λ t. fields-end-lts.spec
+    (type-end-below t, type-end.Post)
+    (fields-end-at t)
+    fields-end.Post
+    fields-end-Inv-loop
+    fields-end-μ-loop
+    (fields-end-loop-holds t)
+    (fields-end-type-end-requires t)
+    (fields-end-returns t)
+    (fields-end-sub-left t)
+    (fields-end-loop-less t)
+    (fields-end-loop-again t)
+    (fields-end-returns-2 t))
+    (λ t. group-end-lts.spec (
+      fields-end-below t,
+      fields-end.Post,
+      alternatives-end-below t,
+      alternatives-end.Post,
+    )
+    (group-end-at t)
+    group-end.Post
+    (group-end-returns t)
+    (group-end-mul-kind t)
+    (group-end-shared-slice-read-kind t)
+    (group-end-add-count t)
+    (group-end-mul-count t)
+    (group-end-shared-slice-read-count t)
+    (group-end-add-fields-end t)
+    (group-end-sub-fields-end t)
+    (group-end-fields-end-requires t)
+    (group-end-returns-2 t)
+    (group-end-add-alternatives-end t)
+    (group-end-sub-alternatives-end t)
+    (group-end-alternatives-end-requires t)
+    (group-end-returns-3 t)
+    (group-end-returns-4 t))
+    λ t. type-end-lts.spec
+    (group-end-below t, group-end.Post)
+    (type-end-at t)
+    type-end.Post
+    (type-end-returns t)
+    (type-end-mul-kind t)
+    (type-end-shared-slice-read-kind t)
+    (type-end-returns-2 t)
+    (type-end-add-result t)
+    (type-end-returns-3 t)
+    (type-end-sub-if4 t)
+    (type-end-returns-4 t)
+    (type-end-add-result-2 t)
+    (type-end-returns-5 t)
+    (type-end-group-end-requires t)
+    (type-end-returns-6 t)

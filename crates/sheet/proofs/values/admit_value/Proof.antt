@@ -1,0 +1,29 @@
+use Rattle.sheet.proofs.AdmitValue.{too-long, too-large, no-value, more-words, is-value}
+use borrow.Author.Needs.{needs}
+use Rattle.sheet.proofs.values.admit_value.Statement.{statement}
+use Rattle.sheet.proofs.values.admit_value.Tie as tie
+use Rattle.sheet.proofs.values.admit_value.Reads as reads
+use Rattle.sheet.proofs.values.admit_value.Lts as lts
+use Rattle.sheet.proofs.values.value_end.Reads as value-end-reads
+
+returns : tie.Need-returns
+returns c = search too-long
+
+returns-2 : tie.Need-returns-2
+returns-2 c = search too-large
+
+value-end-requires : tie.Need-value-end-requires
+value-end-requires c κs = search needs
+
+returns-3 : tie.Need-returns-3
+returns-3 c = search no-value
+
+returns-4 : tie.Need-returns-4
+returns-4 c = is-value _ _ (c .before .before .before .before .before .before .before .if1 .left) (c .before .before .before .before .before .before .if2 .left) _ _ (c .before .before .before .before .before .value-end .ensures) (c .before .before .before .if3 .left) (c .before .if4 .taken)
+
+returns-5 : tie.Need-returns-5
+returns-5 c = search more-words
+
+pub admit-value-spec : {M : Type 1} → statement M
+admit-value-spec =
+    tie.close (tie.spec returns returns-2 value-end-requires returns-3 returns-4 returns-5)

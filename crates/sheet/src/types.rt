@@ -1,0 +1,106 @@
+// Type sheets: where a type ends, and whether a sheet is admitted.
+ghost use mathlib.Core.Path.{_≡_};
+ghost use Prim.Native.Nat.{_+_, _≤_, _<_};
+ghost use lib.ListN.{length, drop, getD};
+ghost use Rattle.format.specs.TypeSheet.{typeAt, types, alts, typeOf, isSome};
+ghost use Rattle.sheet.specs.Places.{Ends, Skips};
+
+// The place behind the type at `at`, of at most `groups` groups in one another; 0 if there is none. Only a group is a call.
+pub fn type_end(ty: &[u32], at: usize, groups: usize) -> usize
+    ensures { λ r. ⌜ Ends (now (ty .entry)) (at + 1) (typeAt groups (drop at (now (ty .entry)))) r ⌝ }
+{
+    if at >= ty.len() {
+        return 0;
+    }
+    let kind = ty[at];
+    if kind == 0 {
+        return 0;
+    }
+    if kind < 4 {
+        return at + 1;
+    }
+    if ty.len() - at < 2 {
+        return 0;
+    }
+    if kind == 4 {
+        return at + 2;
+    }
+    group_end(ty, at, groups)
+}
+
+// The place behind the group at `at`; an unknown kind is none.
+fn group_end(ty: &[u32], at: usize, groups: usize) -> usize
+    requires { ⌜ (at + 1 < length (now ty)) × (4 < getD (now ty) at 0) ⌝ }
+    ensures { λ r. ⌜ Ends (now (ty .entry)) (at + 1) (typeAt groups (drop at (now (ty .entry)))) r ⌝ }
+{
+    if groups == 0 {
+        return 0;
+    }
+    let kind = ty[at];
+    let count = ty[at + 1];
+    if kind == 5 {
+        return fields_end(ty, at + 2, count, groups - 1);
+    }
+    if kind == 6 {
+        return alternatives_end(ty, at + 2, count, groups - 1);
+    }
+    0
+}
+
+// The place behind `count` types from `at` on; 0 if they do not stand there.
+fn fields_end(ty: &[u32], at: usize, count: u32, groups: usize) -> usize
+    requires { ⌜ at ≤ length (now ty) ⌝ }
+    ensures { λ r. ⌜ Ends (now (ty .entry)) at (types (typeAt groups) count (drop at (now (ty .entry)))) r ⌝ }
+{
+    let mut left = count;
+    let mut place = at;
+    while left > 0 {
+        place = type_end(ty, place, groups);
+        if place == 0 {
+            return 0;
+        }
+        left -= 1;
+    }
+    place
+}
+
+// The place behind `count` alternatives from `at` on; 0 if they do not stand there.
+pub fn alternatives_end(ty: &[u32], at: usize, count: u32, groups: usize) -> usize
+    requires { ⌜ at ≤ length (now ty) ⌝ }
+    ensures { λ r. ⌜ Ends (now (ty .entry)) at (alts (typeAt groups) count (drop at (now (ty .entry)))) r ⌝ }
+{
+    let mut left = count;
+    let mut place = at;
+    while left > 0 {
+        if place >= ty.len() {
+            return 0;
+        }
+        place = type_end(ty, place + 1, groups);
+        if place == 0 {
+            return 0;
+        }
+        left -= 1;
+    }
+    place
+}
+
+// Is the sheet admitted: used up exactly, of known kinds, of at most 4,096 words and at most 320 groups in one another?
+pub fn admit_type(ty: &[u32]) -> bool
+    ensures { λ r. ⌜ r ≡ isSome (typeOf (now (ty .entry))) ⌝ }
+{
+    if ty.len() > 4096 {
+        return false;
+    }
+    let end = type_end(ty, 0, 320);
+    if end == 0 {
+        return false;
+    }
+    end == ty.len()
+}
+
+// The place behind the type at `at` of an admitted sheet.
+pub fn skip_type(ty: &[u32], at: usize) -> usize
+    ensures { λ r. ⌜ Skips (now (ty .entry)) at r ⌝ }
+{
+    type_end(ty, at, 320)
+}

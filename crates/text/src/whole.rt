@@ -1,0 +1,51 @@
+// Whole byte strings: whether they are text. ASCII goes by blocks, and a block with more in it by characters.
+use super::characters::char_width;
+ghost use mathlib.Core.Path.{_≡_};
+ghost use Prim.Native.Nat.{_≤_, _<_};
+ghost use lib.ListN.{length};
+ghost use Rattle.format.specs.Utf8.{utf8};
+ghost use Rattle.text.specs.Walk.{Walked};
+
+// The end of the block of 32 that begins at a place, or of the bytes.
+fn block_end(n: usize, at: usize) -> usize
+    requires { ⌜ at < n ⌝ }
+    ensures { λ r. ⌜ (at < r) × (r ≤ n) ⌝ }
+{
+    if n - at < 32 { n } else { at + 32 }
+}
+
+// The place behind the characters that begin before `stop`, or the place of the first byte that begins none.
+fn walk(s: &[u8], from: usize, stop: usize) -> usize
+    requires { ⌜ (from ≤ stop) × (stop ≤ length (now s)) ⌝ }
+    ensures { λ r. ⌜ Walked (now (s .entry)) from stop r ⌝ }
+{
+    let mut at: usize = from;
+    while at < stop {
+        let w = char_width(s, at);
+        if w == 0 {
+            return at;
+        }
+        at += w;
+    }
+    at
+}
+
+// Are the bytes text?
+pub fn valid(s: &[u8]) -> bool
+    ensures { λ r. ⌜ r ≡ utf8 (now (s .entry)) ⌝ }
+{
+    let mut at: usize = 0;
+    while at < s.len() {
+        if blocks::ascii(s, at, 32) {
+            at += 32;
+        } else {
+            let stop = block_end(s.len(), at);
+            let next = walk(s, at, stop);
+            if next < stop {
+                return false;
+            }
+            at = next;
+        }
+    }
+    true
+}
