@@ -48,6 +48,11 @@
 -- SheetExamples   sheets worked by hand
 -- AfreshLaws   a record that encode_key accepts has an admitted sheet
 --
+-- What the encoder's walks follow:
+-- EncodePlaces   groups from their second word on, and the fields behind the first
+-- FitLaws      what refuses a value, by its kind
+-- PlainLaws    a value that is no group, by its words
+--
 -- Demand3      demand 3 of the request, in full
 pub mod Specimens
 pub mod Bytes
@@ -88,4 +93,7 @@ pub mod Small
 pub mod SoundLaws
 pub mod SheetExamples
 pub mod AfreshLaws
+pub mod EncodePlaces
+pub mod FitLaws
+pub mod PlainLaws
 pub mod Demand3

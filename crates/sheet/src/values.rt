@@ -94,7 +94,14 @@ fn other_end(words: &[u64], pool: &[u8], at: usize, from: usize, groups: usize) 
 
 // The place behind `count` values from `at` on, their bytes from `from` on, each with at most `groups` groups in one another; its words are 0 if they
 // do not stand there. A plain value is passed in place.
-fn values_end(words: &[u64], pool: &[u8], at: usize, from: usize, count: u64, groups: usize) -> Place
+fn values_end(
+    words: &[u64],
+    pool: &[u8],
+    at: usize,
+    from: usize,
+    count: u64,
+    groups: usize,
+) -> Place
     requires { ⌜ (at ≤ length (now words)) × (from ≤ length (now pool)) ⌝ }
     ensures { λ r. ⌜ ValueEnds (now (words .entry)) (now (pool .entry)) (at + count) from (values (valueAt groups) count (drop at (now (words .entry))) (drop from (now (pool .entry)))) (r .words) (r .pool) ⌝ }
 {

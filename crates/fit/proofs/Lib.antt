@@ -1,0 +1,3 @@
+-- Laws of the measuring walk.
+pub mod Leaves
+pub mod Steps

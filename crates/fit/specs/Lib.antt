@@ -1,0 +1,2 @@
+-- What the measuring walk promises.
+pub mod Fit

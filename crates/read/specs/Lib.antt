@@ -1,0 +1,2 @@
+-- What the walkers' contracts say.
+pub mod Walk

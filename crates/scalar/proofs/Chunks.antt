@@ -1,0 +1,103 @@
+-- Runs and payloads from a place on: up to the next zero, and over it.
+use mathlib.Core.Path.{_≡_, refl, sym, ap, _∙_}
+use mathlib.Core.List.{List, [], _∷_, _++_}
+use Prim.Native.Nat.{ℕ, suc, _+_, _-_, _≤_, _<_}
+use native.Mathlib.Numerals.{add-one}
+use native.Mathlib.Omega.{arith}
+use lib.ListN.{length, getD, drop, length-append, drop-of-length-le}
+use lib.Seq.{slice, length-slice, drop-cons, drop-drop}
+use Rattle.format.specs.Scalar.{escaped}
+use Rattle.format.specs.Read.{Read, got, bad, consRead, getRun}
+use Rattle.format.specs.Fields.{put}
+use Rattle.blocks.specs.Zeros.{ZeroFrom}
+use Rattle.blocks.proofs.Spans.{drop-split, span-slice}
+use Rattle.blocks.proofs.Put.{Left, left-chunk}
+use Rattle.scalar.specs.Runs.{unescape}
+use Rattle.scalar.proofs.Escapes.{escaped-none, escaped-byte, escaped-zero, unescape-none, unescape-byte, unescape-zero, run-byte}
+
+pub drop-one : (s : List ℕ) (i : ℕ) → i < length s → drop i s ≡ getD s i 0 ∷ drop (i + 1) s
+drop-one s i h = rw add-one (drop-cons s i 0 h)
+
+-- no zero in it
+abbrev pub Free : List ℕ → Type 0
+Free t = (k : ℕ) → k < length t → getD t k 0 ≡ 0 → ⊥
+
+pub free-rest : (b : ℕ) (t : List ℕ) → Free (b ∷ t) → Free t
+free-rest b t h k l = h (suc k) (omega arith)
+
+escaped-free : (t u : List ℕ) → Free t → escaped (t ++ u) ≡ t ++ escaped u
+escaped-free [] u h = refl
+escaped-free (b ∷ t) u h = escaped-byte b (t ++ u) (h 0 (omega arith)) ∙ ap (λ (l : List ℕ). b ∷ l) (escaped-free t u (free-rest b t h))
+
+unescape-free : (t u : List ℕ) → Free t → unescape (t ++ u) ≡ t ++ unescape u
+unescape-free [] u h = refl
+unescape-free (b ∷ t) u h = unescape-byte b (t ++ u) (h 0 (omega arith)) ∙ ap (λ (l : List ℕ). b ∷ l) (unescape-free t u (free-rest b t h))
+
+-- a piece of payload in front of what is read
+abbrev pub prepended : List ℕ → Read (List ℕ) → Read (List ℕ)
+prepended q (got p r) = got (q ++ p) r
+prepended q (bad n d) = bad n d
+
+prepended-none : (x : Read (List ℕ)) → prepended [] x ≡ x
+prepended-none (got p r) = refl
+prepended-none (bad n d) = refl
+
+prepended-cons : (b : ℕ) (q : List ℕ) (x : Read (List ℕ)) → consRead b (prepended q x) ≡ prepended (b ∷ q) x
+prepended-cons b q (got p r) = refl
+prepended-cons b q (bad n d) = refl
+
+run-free : (t u : List ℕ) → Free t → getRun (t ++ u) ≡ prepended t (getRun u)
+run-free [] u h = sym (prepended-none (getRun u))
+run-free (b ∷ t) u h = run-byte b (t ++ u) (h 0 (omega arith)) ∙ ap (consRead b) (run-free t u (free-rest b t h)) ∙ prepended-cons b t (getRun u)
+
+module _ (s : List ℕ) (i z : ℕ) (f : ZeroFrom s i z) where
+  pub chunk-free : Free (slice i z s)
+  chunk-free = span-slice s (λ b. b ≡ 0 → ⊥) i z (f .inside) (f .none)
+
+  pub chunk-split : drop i s ≡ slice i z s ++ drop z s
+  chunk-split = drop-split s i z (f .after) (f .inside)
+
+  pub chunk-long : length (slice i z s) ≡ z - i
+  chunk-long = length-slice i z s (f .inside)
+
+  pub escaped-chunk : escaped (drop i s) ≡ slice i z s ++ escaped (drop z s)
+  escaped-chunk = ap escaped chunk-split ∙ escaped-free (slice i z s) (drop z s) chunk-free
+
+  pub unescape-chunk : unescape (drop i s) ≡ slice i z s ++ unescape (drop z s)
+  unescape-chunk = ap unescape chunk-split ∙ unescape-free (slice i z s) (drop z s) chunk-free
+
+  pub run-chunk : getRun (drop i s) ≡ prepended (slice i z s) (getRun (drop z s))
+  run-chunk = ap getRun chunk-split ∙ run-free (slice i z s) (drop z s) chunk-free
+
+  pub escaped-ahead : length (escaped (drop i s)) ≡ (z - i) + length (escaped (drop z s))
+  escaped-ahead = ap length escaped-chunk ∙ length-append (slice i z s) _ ∙ ap (λ (n : ℕ). n + length (escaped (drop z s))) chunk-long
+
+  pub unescape-ahead : length (unescape (drop i s)) ≡ (z - i) + length (unescape (drop z s))
+  unescape-ahead = ap length unescape-chunk ∙ length-append (slice i z s) _ ∙ ap (λ (n : ℕ). n + length (unescape (drop z s))) chunk-long
+
+  -- the bytes before the zero were copied
+  pub escaped-copied : {d₀ : List ℕ} {at : ℕ} {t d d′ : List ℕ} {o : ℕ} → at + length t ≤ length d₀ → Left d₀ at t d o (escaped (drop i s)) → d′ ≡ put d o (slice i z s)
+      → Left d₀ at t d′ (o + (z - i)) (escaped (drop z s))
+  escaped-copied h l p = left-chunk (slice i z s) h (rw escaped-chunk at l) p chunk-long
+
+  pub unescape-copied : {d₀ : List ℕ} {at : ℕ} {t d d′ : List ℕ} {o : ℕ} → at + length t ≤ length d₀ → Left d₀ at t d o (unescape (drop i s)) → d′ ≡ put d o (slice i z s)
+      → Left d₀ at t d′ (o + (z - i)) (unescape (drop z s))
+  unescape-copied h l p = left-chunk (slice i z s) h (rw unescape-chunk at l) p chunk-long
+
+  -- over the zero
+  module _ (h : z < length s) where
+    pub escaped-over : escaped (drop z s) ≡ 0 ∷ 0xFF ∷ escaped (drop (z + 1) s)
+    escaped-over = ap escaped (drop-one s z h) ∙ escaped-zero (getD s z 0) (drop (z + 1) s) (f .zero h)
+
+    pub unescape-over : unescape (drop z s) ≡ 0 ∷ unescape (drop (z + 2) s)
+    unescape-over =
+        let two : z + 1 + 1 ≡ z + 2 = omega arith in
+        ap unescape (drop-one s z h) ∙ unescape-zero (getD s z 0) (drop (z + 1) s) (f .zero h) ∙ rw (drop-drop 1 (z + 1) s, two)
+
+-- at the end
+module _ (s : List ℕ) (z : ℕ) (h : length s ≤ z) where
+  pub escaped-past : escaped (drop z s) ≡ 0 ∷ []
+  escaped-past = ap escaped (drop-of-length-le s h) ∙ escaped-none
+
+  pub unescape-past : unescape (drop z s) ≡ []
+  unescape-past = ap unescape (drop-of-length-le s h) ∙ unescape-none

@@ -1,0 +1,14 @@
+-- Laws that the proofs here and those of callers share.
+pub mod Cases
+pub mod Parts
+pub mod Widths
+pub mod Numbers
+pub mod Reading
+pub mod Integers
+pub mod Escapes
+pub mod Chunks
+pub mod Measures
+pub mod Rooms
+pub mod References
+pub mod Placing
+pub mod Judging

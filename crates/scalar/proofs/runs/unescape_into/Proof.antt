@@ -1,0 +1,126 @@
+-- `unescape_into` meets its contract. The loop's invariant: the payload of what is left of the run, put from o on, makes the whole.
+use Prim.Native.Nat.{_-_}
+use native.Mathlib.Omega.{arith}
+use lib.ListN.{length, drop}
+use Rattle.blocks.proofs.Put.{Left, left-all, left-store, left-none}
+use Rattle.scalar.specs.Runs.{unescape}
+use Rattle.scalar.proofs.Chunks.{unescape-copied, unescape-over, unescape-past, unescape-ahead}
+use Rattle.scalar.proofs.runs.unescape_into.Statement.{statement}
+use Rattle.scalar.proofs.runs.unescape_into.Tie as tie
+
+abbrev Inv-loop : tie.InvT-loop
+Inv-loop run dst₀ at i₀ o₀ dst i o = Left dst₀ at (unescape run) dst o (unescape (drop i run))
+
+abbrev μ-loop : tie.MeasureT-loop
+μ-loop run dst₀ at i₀ o₀ dst i o = length run - i
+
+loop-holds : tie.Need-loop-holds Inv-loop μ-loop
+loop-holds c = left-all _ _ _
+
+zero-from-requires : tie.Need-zero-from-requires Inv-loop μ-loop
+zero-from-requires c κs = omega arith
+
+copy-to-requires : tie.Need-copy-to-requires Inv-loop μ-loop
+copy-to-requires c κs =
+    let l = c .before .before .before .loop in
+    let s = c .before .before .before .before .before .before .args .run .now in
+    let z = c .before .zero-from .result in
+    let f = c .before .zero-from .ensures in
+    let ahead = unescape-ahead s (l .i) z f in
+    (f .after, f .inside, omega arith)
+
+sub-o : tie.Need-sub-o Inv-loop μ-loop
+sub-o c = c .before .before .before .before .zero-from .ensures .after
+
+add-o : tie.Need-add-o Inv-loop μ-loop
+add-o c =
+    let l = c .before .before .before .before .before .before .loop in
+    let s = c .before .before .before .before .before .before .before .before .before .args .run .now in
+    let z = c .before .before .before .before .zero-from .result in
+    let f = c .before .before .before .before .zero-from .ensures in
+    let ahead = unescape-ahead s (l .i) z f in
+    omega arith
+
+same-length : tie.Need-same-length Inv-loop μ-loop
+same-length c =
+    let l = c .before .before .before .before .before .before .before .loop in
+    let s = c .before .before .before .before .before .before .before .before .before .before .args .run .now in
+    let z = c .before .before .before .before .before .zero-from .result in
+    let f = c .before .before .before .before .before .zero-from .ensures in
+    let copied = unescape-copied s (l .i) z f (omega arith) (l .inv) (c .before .before .before .copy-to .ensures) in
+    copied .long
+
+returns : tie.Need-returns Inv-loop μ-loop
+returns c =
+    let l = c .before .before .before .before .before .before .before .loop in
+    let s = c .before .before .before .before .before .before .before .before .before .before .args .run .now in
+    let z = c .before .before .before .before .before .zero-from .result in
+    let f = c .before .before .before .before .before .zero-from .ensures in
+    let copied = unescape-copied s (l .i) z f (omega arith) (l .inv) (c .before .before .before .copy-to .ensures) in
+    let done = rw (unescape-past s z (c .if1 .taken)) at copied in
+    (omega arith, left-none done)
+
+slice-write-dst : tie.Need-slice-write-dst Inv-loop μ-loop
+slice-write-dst c =
+    let l = c .before .before .before .before .before .before .before .loop in
+    let s = c .before .before .before .before .before .before .before .before .before .before .args .run .now in
+    let z = c .before .before .before .before .before .zero-from .result in
+    let f = c .before .before .before .before .before .zero-from .ensures in
+    let copied = unescape-copied s (l .i) z f (omega arith) (l .inv) (c .before .before .before .copy-to .ensures) in
+    let left = rw (unescape-over s (l .i) z f (c .if1 .left)) at copied in
+    omega arith
+
+add-o-2 : tie.Need-add-o-2 Inv-loop μ-loop
+add-o-2 c =
+    let l = c .before .before .before .before .before .before .before .loop in
+    let s = c .before .before .before .before .before .before .before .before .before .before .args .run .now in
+    let z = c .before .before .before .before .before .zero-from .result in
+    let f = c .before .before .before .before .before .zero-from .ensures in
+    let copied = unescape-copied s (l .i) z f (omega arith) (l .inv) (c .before .before .before .copy-to .ensures) in
+    let left = rw (unescape-over s (l .i) z f (c .if1 .left)) at copied in
+    omega arith
+
+add-i : tie.Need-add-i Inv-loop μ-loop
+add-i c = omega arith
+
+loop-less : tie.Need-loop-less Inv-loop μ-loop
+loop-less c = omega arith
+
+loop-again : tie.Need-loop-again Inv-loop μ-loop
+loop-again c =
+    let l = c .before .before .before .before .before .before .before .loop in
+    let s = c .before .before .before .before .before .before .before .before .before .before .args .run .now in
+    let z = c .before .before .before .before .before .zero-from .result in
+    let f = c .before .before .before .before .before .zero-from .ensures in
+    let copied = unescape-copied s (l .i) z f (omega arith) (l .inv) (c .before .before .before .copy-to .ensures) in
+    let left = rw (unescape-over s (l .i) z f (c .if1 .left)) at copied in
+    left-store (omega arith) left
+
+same-length-2 : tie.Need-same-length-2 Inv-loop μ-loop
+same-length-2 c = c .before .loop .inv .long
+
+returns-2 : tie.Need-returns-2 Inv-loop μ-loop
+returns-2 c =
+    let done = rw (unescape-past (c .before .before .before .before .args .run .now) (c .before .loop .i) (c .loop-test .left)) at (c .before .loop .inv) in
+    (omega arith, left-none done)
+
+pub unescape-into-spec : {M : Type 1} → statement M
+unescape-into-spec =
+    tie.close
+    (tie.spec
+    Inv-loop
+    μ-loop
+    loop-holds
+    zero-from-requires
+    copy-to-requires
+    sub-o
+    add-o
+    same-length
+    returns
+    slice-write-dst
+    add-o-2
+    add-i
+    loop-less
+    loop-again
+    same-length-2
+    returns-2)

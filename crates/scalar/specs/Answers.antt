@@ -1,0 +1,37 @@
+-- What each answer of a call means, by cases.
+use mathlib.Core.List.{List}
+use Prim.Native.Nat.{ℕ, _+_}
+use lib.Dec.{ltb}
+use Rattle.format.specs.Answer.{if, Answer, ok, refused, noRoom}
+use Rattle.format.specs.Read.{getFactId}
+use Rattle.format.specs.Fields.{Taken, takenFrom, Place, inKey, inScratch}
+use Rattle.scalar.specs.declared.ints.GotInt.{GotInt}
+use Rattle.scalar.specs.declared.ints.GotInt.the-variants.{Value, Refused as NoInt}
+use Rattle.scalar.specs.declared.payloads.GotPart.{GotPart}
+use Rattle.scalar.specs.declared.payloads.GotPart.the-variants.{InKey, InScratch, Refused as NoPart}
+use Rattle.scalar.specs.declared.puts.Put.{Put}
+use Rattle.scalar.specs.declared.puts.Put.the-variants.{At, Refused as NoPut}
+
+-- an integer and how many bytes it took
+abbrev pub gotInt : GotInt → Answer (Taken ℕ)
+gotInt (Value v n) = ok (record { value = v; used = n })
+gotInt (NoInt n d) = refused n d
+
+-- reading a reference where no type is at hand
+unfoldable pub getFactIdCall : List ℕ → Answer (Taken ℕ)
+getFactIdCall bytes = takenFrom bytes (getFactId bytes)
+
+-- the place behind what was written
+abbrev pub putAnswer : Put → Answer ℕ
+putAnswer (At n) = ok n
+putAnswer (NoPut n d) = refused n d
+
+-- what writing n bytes at a place of a buffer of so many answers: a place past the buffer is NoRoom with that place
+abbrev pub roomFor : (len at n : ℕ) → Answer ℕ
+roomFor len at n = if (ltb len at) (noRoom at) (if (ltb len (at + n)) (noRoom (at + n)) (ok (at + n)))
+
+-- where a payload is and how many bytes its field took
+abbrev pub gotPart : GotPart → Answer (Taken Place)
+gotPart (InKey at len used) = ok (record { value = inKey at len; used = used })
+gotPart (InScratch len used) = ok (record { value = inScratch len; used = used })
+gotPart (NoPart n d) = refused n d

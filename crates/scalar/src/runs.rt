@@ -1,0 +1,138 @@
+// Escaped runs: each 00 of the payload is written 00 FF, and a 00 not followed by FF ends the run.
+ghost use mathlib.Core.Path.{_≡_};
+ghost use Prim.Native.Nat.{_+_, _≤_};
+ghost use lib.ListN.{length};
+ghost use lib.Seq.{slice};
+ghost use Rattle.format.specs.Scalar.{escaped};
+ghost use Rattle.format.specs.Utf8.{utf8};
+ghost use Rattle.format.specs.Fields.{put};
+ghost use Rattle.scalar.specs.Runs.{measured, unescape};
+
+// How many bytes the run of a payload has: its own, one more for each zero, and the end.
+pub fn escaped_len(payload: &[u8]) -> usize
+    ensures { λ r. ⌜ r ≡ length (escaped (now (payload .entry))) ⌝ }
+{
+    let zeros = blocks::count_zeros(payload);
+    payload.len() + zeros + 1
+}
+
+// The same for the payload src[i..e].
+pub fn run_len(src: &[u8], i: usize, e: usize) -> usize
+    requires { ⌜ (i ≤ e) × (e ≤ length (now src)) ⌝ }
+    ensures { λ r. ⌜ r ≡ length (escaped (slice i e (now (src .entry)))) ⌝ }
+{
+    escaped_len(&src[i..e])
+}
+
+// Writes a payload as a run from a place on, and returns the place behind it.
+pub fn write_escaped(buf: &mut [u8], at: usize, payload: &[u8]) -> usize
+    requires { ⌜ at + length (escaped (now payload)) ≤ length (now buf) ⌝ }
+    ensures { λ r. ⌜ (r ≡ at + length (escaped (now (payload .entry)))) × (now (buf .exit) ≡ put (now (buf .entry)) at (escaped (now (payload .entry)))) ⌝ }
+{
+    let mut o: usize = at;
+    let mut i: usize = 0;
+    loop {
+        let z = blocks::zero_from(payload, i);
+        blocks::copy_to(buf, o, payload, i, z);
+        o += z - i;
+        if payload.len() <= z {
+            break;
+        }
+        buf[o] = format::MARK_TERM;
+        o += 1;
+        buf[o] = format::MARK_ESCAPE;
+        o += 1;
+        i = z + 1;
+    }
+    buf[o] = format::MARK_TERM;
+    o + 1
+}
+
+// The same for the payload src[i..e].
+pub fn write_run(buf: &mut [u8], at: usize, src: &[u8], i: usize, e: usize) -> usize
+    requires { ⌜ (i ≤ e) × (e ≤ length (now src)) × (at + length (escaped (slice i e (now src))) ≤ length (now buf)) ⌝ }
+    ensures { λ r. ⌜ (r ≡ at + length (escaped (slice i e (now (src .entry))))) × (now (buf .exit) ≡ put (now (buf .entry)) at (escaped (slice i e (now (src .entry))))) ⌝ }
+{
+    write_escaped(buf, at, &src[i..e])
+}
+
+// Where a run's terminator is and how many bytes its payload has, if it ends.
+pub enum Measure {
+    Run(usize, usize),
+    Unended,
+}
+
+// Measures the run that the bytes begin with. A 00 not followed by FF ends it, also as the last byte.
+pub fn measure_run(bytes: &[u8]) -> Measure
+    ensures { λ r. ⌜ r ≡ measured (now (bytes .entry)) ⌝ }
+{
+    let mut i: usize = 0;
+    let mut n: usize = 0;
+    let end = loop {
+        let z = blocks::zero_from(bytes, i);
+        if bytes.len() <= z {
+            return Measure::Unended;
+        }
+        n += z - i;
+        if bytes.len() - z < 2 {
+            break z;
+        }
+        if bytes[z + 1] != format::MARK_ESCAPE {
+            break z;
+        }
+        n += 1;
+        i = z + 2;
+    };
+    Measure::Run(end, n)
+}
+
+// Writes the payload of a run's bytes, those before its terminator, from a place on, and returns the place behind it.
+pub fn unescape_into(run: &[u8], dst: &mut [u8], at: usize) -> usize
+    requires { ⌜ at + length (unescape (now run)) ≤ length (now dst) ⌝ }
+    ensures { λ r. ⌜ (r ≡ at + length (unescape (now (run .entry)))) × (now (dst .exit) ≡ put (now (dst .entry)) at (unescape (now (run .entry)))) ⌝ }
+{
+    let mut i: usize = 0;
+    let mut o: usize = at;
+    while i < run.len() {
+        let z = blocks::zero_from(run, i);
+        blocks::copy_to(dst, o, run, i, z);
+        o += z - i;
+        if run.len() <= z {
+            return o;
+        }
+        dst[o] = 0;
+        o += 1;
+        i = z + 2;
+    }
+    o
+}
+
+// Is the payload of a run's bytes text? It is judged piece by piece between its zeros, and not written.
+pub fn run_is_text(run: &[u8]) -> bool
+    ensures { λ r. ⌜ r ≡ utf8 (unescape (now (run .entry))) ⌝ }
+{
+    let mut i: usize = 0;
+    while i < run.len() {
+        let z = blocks::zero_from(run, i);
+        if !text::valid(&run[i..z]) {
+            return false;
+        }
+        if run.len() <= z {
+            return true;
+        }
+        i = z + 2;
+    }
+    true
+}
+
+// The same where the payload's length is known: without an escape the run is its own payload.
+pub fn payload_is_text(run: &[u8], n: usize) -> bool
+    requires { ⌜ n ≡ length (unescape (now run)) ⌝ }
+    ensures { λ r. ⌜ r ≡ utf8 (unescape (now (run .entry))) ⌝ }
+{
+    if n == run.len() {
+        text::valid(run)
+    } else {
+        run_is_text(run)
+    }
+}

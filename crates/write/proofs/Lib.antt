@@ -1,0 +1,2 @@
+-- Laws of the writing walk.
+pub mod Steps

@@ -1,0 +1,2 @@
+-- What the writing walk promises.
+pub mod Write

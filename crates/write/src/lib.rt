@@ -1,0 +1,205 @@
+// The encoder's writing walk. It goes by the value alone: a value's type has no part in its bytes.
+ghost use mathlib.Core.Path.{_≡_};
+ghost use mathlib.Core.List.{[], _∷_};
+ghost use Prim.Native.Nat.{_+_, _≤_};
+ghost use lib.ListN.{length};
+ghost use lib.Seq.{slice};
+ghost use Rattle.format.specs.Scalar.{intBytes, uintBytes, refBytes, escaped};
+ghost use Rattle.format.proofs.PlainLaws.{plainPool, plainBytes};
+ghost use Rattle.write.specs.Write.{standing, Stored, Ready, Passed, WroteValue, WroteFields};
+
+// Where the walk stands in the words, the pool and the buffer, and how many fields are left.
+pub struct Put {
+    pub word: usize,
+    pub pool: usize,
+    pub at: usize,
+    pub left: u64,
+}
+
+// A walk that stands at these places.
+pub fn stand(word: usize, pool: usize, at: usize, left: u64) -> Put
+    ensures { λ r. ⌜ r ≡ standing word pool at left ⌝ }
+{
+    Put {
+        word,
+        pool,
+        at,
+        left,
+    }
+}
+
+// One byte, where there is room.
+fn put_byte(out: &mut [u8], at: usize, b: u8) -> usize
+    requires { ⌜ at ≤ length (now out) ⌝ }
+    ensures { λ r. ⌜ Stored (now (out .entry)) at (b ∷ []) r (now (out .exit)) ⌝ }
+{
+    if at < out.len() {
+        out[at] = b;
+        return at + 1;
+    }
+    at
+}
+
+// An integer, where there is room.
+fn put_int(out: &mut [u8], at: usize, w: u64) -> usize
+    requires { ⌜ at ≤ length (now out) ⌝ }
+    ensures { λ r. ⌜ Stored (now (out .entry)) at (intBytes w) r (now (out .exit)) ⌝ }
+{
+    if out.len() - at < scalar::ints::int_len(w) {
+        return at;
+    }
+    scalar::ints::write_i64(out, at, w)
+}
+
+// A discriminant, where there is room.
+fn put_disc(out: &mut [u8], at: usize, n: u64) -> usize
+    requires { ⌜ at ≤ length (now out) ⌝ }
+    ensures { λ r. ⌜ Stored (now (out .entry)) at (uintBytes n) r (now (out .exit)) ⌝ }
+{
+    if out.len() - at < scalar::ints::uint_len(n) {
+        return at;
+    }
+    scalar::ints::write_u64(out, at, n)
+}
+
+// A reference, where there is room.
+fn put_ref(out: &mut [u8], at: usize, raw: u64) -> usize
+    requires { ⌜ at ≤ length (now out) ⌝ }
+    ensures { λ r. ⌜ Stored (now (out .entry)) at (refBytes raw) r (now (out .exit)) ⌝ }
+{
+    if out.len() - at < format::FACT_REF_FIELD_LEN {
+        return at;
+    }
+    scalar::refs::write_ref(out, at, raw)
+}
+
+// A run of the pool's bytes from p up to e, where there is room.
+fn put_run(out: &mut [u8], at: usize, pool: &[u8], p: usize, e: usize) -> usize
+    requires { ⌜ (at ≤ length (now out)) × (p ≤ e) × (e ≤ length (now pool)) ⌝ }
+    ensures { λ r. ⌜ Stored (now (out .entry)) at (escaped (slice p e (now (pool .entry)))) r (now (out .exit)) ⌝ }
+{
+    if out.len() - at < scalar::runs::run_len(pool, p, e) {
+        return at;
+    }
+    scalar::runs::write_run(out, at, pool, p, e)
+}
+
+// How many bytes of the pool a value takes that is no group: a run's length.
+fn run_of(kind: u64, x: u64) -> usize
+    ensures { λ r. ⌜ r ≡ plainPool kind x ⌝ }
+{
+    if kind == 1 {
+        return 0;
+    }
+    if kind == 4 {
+        return 0;
+    }
+    x as usize
+}
+
+// A value that is no group, of a kind and with the second word x, its bytes of the pool from p up to e.
+fn put_scalar(
+    out: &mut [u8],
+    at: usize,
+    kind: u64,
+    x: u64,
+    pool: &[u8],
+    p: usize,
+    e: usize,
+) -> usize
+    requires { ⌜ (at ≤ length (now out)) × (p ≤ e) × (e ≤ length (now pool)) ⌝ }
+    ensures { λ r. ⌜ Stored (now (out .entry)) at (plainBytes kind x (slice p e (now (pool .entry)))) r (now (out .exit)) ⌝ }
+{
+    if kind == 1 {
+        return put_int(out, at, x);
+    }
+    if kind == 4 {
+        return put_ref(out, at, x);
+    }
+    if kind == 2 {
+        let run = put_byte(out, at, format::MARK_STRING);
+        return put_run(out, run, pool, p, e);
+    }
+    let run = put_byte(out, at, format::MARK_BYTES);
+    put_run(out, run, pool, p, e)
+}
+
+// The values from a place on that are no groups, up to the first that is not passed so.
+pub fn put_plain(words: &[u64], pool: &[u8], out: &mut [u8], s: Put) -> Put
+    requires { ⌜ Ready (now words) (now pool) (now out) s ⌝ }
+    ensures { λ r. ⌜ Passed (now (words .entry)) (now (pool .entry)) s (now (out .entry)) r (now (out .exit)) ⌝ }
+{
+    let mut w = s.word;
+    let mut p = s.pool;
+    let mut at = s.at;
+    let mut left = s.left;
+    while 0 < left {
+        if words.len() - w < 2 {
+            return stand(w, p, at, left);
+        }
+        let kind = words[w];
+        let x = words[w + 1];
+        if 5 <= kind {
+            return stand(w, p, at, left);
+        }
+        let n = run_of(kind, x);
+        if pool.len() - p < n {
+            return stand(w, p, at, left);
+        }
+        at = put_scalar(out, at, kind, x, pool, p, p + n);
+        w += 2;
+        p += n;
+        left -= 1;
+    }
+    stand(w, p, at, left)
+}
+
+// A value.
+pub fn put_value(words: &[u64], pool: &[u8], out: &mut [u8], s: Put) -> Put
+    requires { ⌜ Ready (now words) (now pool) (now out) s ⌝ }
+    ensures { λ r. ⌜ WroteValue (now (words .entry)) (now (pool .entry)) s (now (out .entry)) r (now (out .exit)) ⌝ }
+{
+    let w = s.word;
+    let p = s.pool;
+    if words.len() - w < 2 {
+        return s;
+    }
+    let kind = words[w];
+    let x = words[w + 1];
+    if kind < 5 {
+        let n = run_of(kind, x);
+        if pool.len() - p < n {
+            return s;
+        }
+        let end = put_scalar(out, s.at, kind, x, pool, p, p + n);
+        return stand(w + 2, p + n, end, 0);
+    }
+    if kind == 5 {
+        let inner = put_byte(out, s.at, format::MARK_RECORD);
+        let r = put_fields(words, pool, out, stand(w + 2, p, inner, x));
+        let end = put_byte(out, r.at, format::MARK_TERM);
+        return stand(r.word, r.pool, end, 0);
+    }
+    let tag = put_byte(out, s.at, format::MARK_UNION);
+    let inner = put_disc(out, tag, x);
+    let r = put_value(words, pool, out, stand(w + 2, p, inner, 0));
+    let end = put_byte(out, r.at, format::MARK_TERM);
+    stand(r.word, r.pool, end, 0)
+}
+
+// The fields of a record.
+pub fn put_fields(words: &[u64], pool: &[u8], out: &mut [u8], s: Put) -> Put
+    requires { ⌜ Ready (now words) (now pool) (now out) s ⌝ }
+    ensures { λ r. ⌜ WroteFields (now (words .entry)) (now (pool .entry)) s (now (out .entry)) r (now (out .exit)) ⌝ }
+{
+    let mut here = s;
+    loop {
+        let r = put_plain(words, pool, out, here);
+        let left = r.left;
+        if left == 0 {
+            return r;
+        }
+        let g = put_value(words, pool, out, r);
+        here = stand(g.word, g.pool, g.at, left - 1);
+    }
+}
