@@ -1,0 +1,2 @@
+-- Laws of the decoding calls, one for each way out of them.
+pub mod TopLaws

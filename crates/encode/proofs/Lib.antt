@@ -1,0 +1,3 @@
+-- Laws of the encoding calls.
+pub mod Keys
+pub mod Outcomes

@@ -1,0 +1,2 @@
+-- What the encoding calls promise.
+pub mod Encoded

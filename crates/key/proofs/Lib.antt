@@ -1,0 +1,7 @@
+-- Laws of passing over fields, of the splice, and of the two calls.
+pub mod SpliceLaws
+pub mod PassLaws
+pub mod SpanLaws
+pub mod CallLaws
+pub mod ValueLaws
+pub mod EndLaws

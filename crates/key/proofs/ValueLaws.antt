@@ -1,0 +1,108 @@
+-- What replacement answers once its field was found: the sheet, the value's fit, the limit, the room, the splice.
+use mathlib.Core.Path.{_≡_, refl, sym, ap, _∙_, subst}
+use mathlib.Core.Bool.{Bool, true, false}
+use mathlib.Core.Option.{Option, some, none}
+use mathlib.Core.List.{List, [], _++_}
+use Prim.Native.Nat.{ℕ, _+_, _-_, _≤_, _<_, _^_}
+use native.Mathlib.Omega.{arith}
+use native.Mathlib.Nat.{zero-add}
+use lib.Dec.{ltb, leb}
+use lib.ListN.{length, take, drop}
+use Rattle.format.specs.Answer.{if, Answer, ok, refused, andThen, BadValue, NoRoom, KeyTooLong}
+use Rattle.format.specs.Tree.{Ty, Val}
+use Rattle.format.specs.TypeSheet.{isSome, maxGroups, nesting}
+use Rattle.format.specs.ValueSheet.{valueOf}
+use Rattle.format.specs.Encode.{valBytes, encode, fits, fine, maxKeyBytes}
+use Rattle.format.specs.Calls.{Called, over, written, withValue}
+use Rattle.format.proofs.Tests.{leb-yes, leb-no, ltb-yes}
+use Rattle.format.proofs.TypePlaces.{TypeIn}
+use Rattle.format.proofs.ValuePlaces.{ValueIn, top}
+use Rattle.format.proofs.ValueLaws as values
+use Rattle.fit.specs.declared.Fit.{Fit}
+use Rattle.fit.specs.Fit.{Good, Bad, Gives, One}
+use Rattle.key.specs.declared.replacing.Replaced.{Replaced}
+use Rattle.key.specs.declared.replacing.Replaced.the-variants as replacing
+use Rattle.key.specs.Keys.{ReplaceLeft, ValueStands, Puts, Splices, with, put}
+use Rattle.key.proofs.SpliceLaws.{whole-long}
+
+no-value : (words pool : List ℕ) → isSome (valueOf words pool) ≡ false → valueOf words pool ≡ none
+no-value words pool h = go (valueOf words pool) h
+  where
+    go : (o : Option Val) → isSome o ≡ false → o ≡ none
+    go none e = refl
+    go (some t) e = absurd (let z : _≡_ {A = ℕ} 0 1 = cc in omega arith)
+
+module _ (ty : List ℕ) (at : ℕ) (buffer : List ℕ) (used start end : ℕ) (words pool : List ℕ) where
+  pub v-bad : isSome (valueOf words pool) ≡ false → ValueStands ty at buffer used start end words pool (replacing.Refused BadValue 0) buffer
+  v-bad h = record { stands = λ t e i d. rw (no-value words pool h) (record { answer = refl; left = refl }) }
+
+  module _ (adm : isSome (valueOf words pool) ≡ true) (r : Fit) (f : One ty words pool 0 at 0 0 0 r) where
+    -- the value, and what the walk says of it under a type
+    abbrev the-value : Val
+    the-value = values.its-tree words pool adm .0
+
+    it-is : valueOf words pool ≡ some the-value
+    it-is = values.admitted words pool the-value .1 (values.its-tree words pool adm .1)
+
+    it-stands : ValueIn words pool 0 0 the-value (length words) (length pool)
+    it-stands = top words pool the-value (values.its-tree words pool adm .1)
+
+    abbrev Says : Ty → ℕ → Type 0
+    Says t e = Gives (fits t 0 the-value) (0 + length (valBytes 0 the-value)) e (length words) (length pool) r
+
+    says : (t : Ty) (e : ℕ) → TypeIn ty at t e → nesting t ≤ maxGroups → Says t e
+    says t e i d = f .one t the-value e (length words) (length pool) i d it-stands
+
+    -- the call with the value's encoding
+    abbrev Call : Ty → Called ℕ
+    Call t = written buffer (put t (take used buffer) start end the-value)
+
+    call-is : (t : Ty) → written buffer (withValue (valueOf words pool) (λ u. put t (take used buffer) start end u)) ≡ Call t
+    call-is t = rw it-is
+
+    by-call : (a : Replaced) (buffer′ : List ℕ) → ((t : Ty) (e : ℕ) → TypeIn ty at t e → nesting t ≤ maxGroups → ReplaceLeft (Call t) a buffer′) → ValueStands ty at buffer used start end words pool a buffer′
+    by-call a buffer′ g = record { stands = λ t e i d. subst (λ (c : Called ℕ). ReplaceLeft c a buffer′) (sym (call-is t)) (g t e i d) }
+
+    pub v-refused : (r .no ≡ 0 → ⊥) → ValueStands ty at buffer used start end words pool (replacing.Refused (r .no) (r .detail)) buffer
+    unfolding encode
+    v-refused q = by-call _ _ (λ t e i d. go t e (fits t 0 the-value) refl (says t e i d))
+      where
+        go : (t : Ty) (e : ℕ) (a : Answer Unit) → fits t 0 the-value ≡ a → Gives a (0 + length (valBytes 0 the-value)) e (length words) (length pool) r → ReplaceLeft (Call t) (replacing.Refused (r .no) (r .detail)) buffer
+        go t e (ok u) m g = absurd (q (g .none))
+        go t e (refused n d) m g = rw (m, g .number, g .detail) (record { answer = refl; left = refl })
+
+    -- it fits, and has that length
+    fitting : r .no ≡ 0 → (t : Ty) (e : ℕ) → TypeIn ty at t e → nesting t ≤ maxGroups → (fits t 0 the-value ≡ fine) × (r .len ≡ length (valBytes 0 the-value))
+    fitting q t e i d = go (fits t 0 the-value) refl (says t e i d)
+      where
+        go : (a : Answer Unit) → fits t 0 the-value ≡ a → Gives a (0 + length (valBytes 0 the-value)) e (length words) (length pool) r → (fits t 0 the-value ≡ fine) × (r .len ≡ length (valBytes 0 the-value))
+        go (ok u) m g = (m, g .long ∙ zero-add (length (valBytes 0 the-value)))
+        go (refused n d) m g = absurd (omega (arith, g .number, g .some))
+
+    module _ (q : r .no ≡ 0) (len : ℕ) (el : len ≡ start + r .len + (used - end)) (pe : start ≤ end) (eu : end ≤ used) (ub : used ≤ length buffer) where
+      -- the new key's length
+      new-long : (t : Ty) (e : ℕ) → TypeIn ty at t e → nesting t ≤ maxGroups → length (with (take used buffer) start end (valBytes 0 the-value)) ≡ len
+      new-long t e i d =
+          let w = fitting q t e i d .1 in
+          whole-long buffer (valBytes 0 the-value) start end used pe eu ub ∙ ap (λ (n : ℕ). start + n + (used - end)) (sym w) ∙ sym el
+
+      pub v-long : maxKeyBytes < len → ValueStands ty at buffer used start end words pool (replacing.Refused KeyTooLong len) buffer
+      unfolding encode
+      v-long h = by-call _ _ (λ t e i d.
+          let n = new-long t e i d in
+          rw (fitting q t e i d .0, n, leb-no len maxKeyBytes h) (record { answer = refl; left = refl }))
+
+      module _ (short : len ≤ maxKeyBytes) where
+        pub v-room : length buffer < len → ValueStands ty at buffer used start end words pool (replacing.Refused NoRoom len) buffer
+        unfolding encode
+        v-room h = by-call _ _ (λ t e i d.
+            let n = new-long t e i d in
+            rw (fitting q t e i d .0, n, leb-yes len maxKeyBytes short, n, leb-no len (length buffer) h, ltb-yes len (2 ^ 64) (omega arith)) (record { answer = refl; left = refl }))
+
+        pub v-done : len ≤ length buffer → (buffer′ : List ℕ) → Splices buffer used start end (r .len) words pool buffer′ → ValueStands ty at buffer used start end words pool (replacing.Done len) buffer′
+        unfolding encode
+        v-done h buffer′ s = by-call _ _ (λ t e i d.
+            let n = new-long t e i d in
+            let g = fitting q t e i d in
+            let b = s .splices t the-value it-stands (g .0) (g .1) in
+            rw (g .0, n, leb-yes len maxKeyBytes short, n, leb-yes len (length buffer) h) (record { answer = refl; left = b ∙ ap (λ (m : ℕ). with (take used buffer) start end (valBytes 0 the-value) ++ drop m buffer) n }))

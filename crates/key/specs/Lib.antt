@@ -1,0 +1,3 @@
+-- What the contracts cite beside the calls of format.
+pub mod Passing
+pub mod Keys

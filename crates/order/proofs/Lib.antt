@@ -1,0 +1,3 @@
+-- Laws of the comparing walk.
+pub mod Steps
+pub mod Verdict

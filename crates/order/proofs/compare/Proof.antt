@@ -1,0 +1,49 @@
+use mathlib.Core.Path.{sym, _∙_}
+use Prim.Native.Nat.{Ordering·lt, Ordering·eq}
+use native.Mathlib.Omega.{arith}
+use borrow.Author.Needs.{needs}
+use borrow.Author.Tests.{not-true, not-false}
+use Rattle.order.proofs.Verdict as laws
+use Rattle.order.proofs.compare.Statement.{statement}
+use Rattle.order.proofs.compare.Tie as tie
+
+admit-value-requires : tie.Need-admit-value-requires
+admit-value-requires c κs = search needs
+
+returns : tie.Need-returns
+returns c = let a = c .before .before .before .before .before .before .args in laws.bad-a (a .words-a .now) (a .pool-a .now) (a .words-b .now) (a .pool-b .now) (sym (c .before .admit-value .ensures) ∙ not-true _ (c .if1 .taken))
+
+admit-value-requires-2 : tie.Need-admit-value-requires-2
+admit-value-requires-2 c κs = search needs
+
+returns-2 : tie.Need-returns-2
+returns-2 c = let a = c .before .before .before .before .before .before .before .before .args in laws.bad-b (a .words-a .now) (a .pool-a .now) (a .words-b .now) (a .pool-b .now) (sym (c .before .before .before .admit-value .ensures) ∙ not-false _ (c .before .before .if1 .left)) (sym (c .before .admit-value2 .ensures) ∙ not-true _ (c .if2 .taken))
+
+stand-requires : tie.Need-stand-requires
+stand-requires c κs = search needs
+
+compare-value-requires : tie.Need-compare-value-requires
+compare-value-requires c κs = rw (c .stand .ensures) (record { in-wa = omega arith; in-pa = omega arith; in-wb = omega arith; in-pb = omega arith })
+
+returns-3 : tie.Need-returns-3
+returns-3 c = let a = c .before .before .before .before .before .before .before .before .before .before .before .args in let f = rw (c .before .before .stand .ensures) at (c .before .compare-value .ensures) in laws.said (a .words-a .now) (a .pool-a .now) (a .words-b .now) (a .pool-b .now) (sym (c .before .before .before .before .before .before .admit-value .ensures) ∙ not-false _ (c .before .before .before .before .before .if1 .left)) (sym (c .before .before .before .before .admit-value2 .ensures) ∙ not-false _ (c .before .before .before .if2 .left)) _ (f .says) Ordering·eq (c .if3 .taken)
+
+returns-4 : tie.Need-returns-4
+returns-4 c = let a = c .before .before .before .before .before .before .before .before .before .before .before .before .args in let f = rw (c .before .before .before .stand .ensures) at (c .before .before .compare-value .ensures) in laws.said (a .words-a .now) (a .pool-a .now) (a .words-b .now) (a .pool-b .now) (sym (c .before .before .before .before .before .before .before .admit-value .ensures) ∙ not-false _ (c .before .before .before .before .before .before .if1 .left)) (sym (c .before .before .before .before .before .admit-value2 .ensures) ∙ not-false _ (c .before .before .before .before .if2 .left)) _ (f .says) Ordering·lt (c .if4 .taken)
+
+returns-5 : tie.Need-returns-5
+returns-5 c = let a = c .before .before .before .before .before .before .before .before .before .before .before .before .args in let f = rw (c .before .before .before .stand .ensures) at (c .before .before .compare-value .ensures) in laws.said-greater (a .words-a .now) (a .pool-a .now) (a .words-b .now) (a .pool-b .now) (sym (c .before .before .before .before .before .before .before .admit-value .ensures) ∙ not-false _ (c .before .before .before .before .before .before .if1 .left)) (sym (c .before .before .before .before .before .admit-value2 .ensures) ∙ not-false _ (c .before .before .before .before .if2 .left)) _ (f .says) (c .before .if3 .left) (c .if4 .left)
+
+pub compare-spec : {M : Type 1} → statement M
+compare-spec =
+    tie.close
+    (tie.spec
+    admit-value-requires
+    returns
+    admit-value-requires-2
+    returns-2
+    stand-requires
+    compare-value-requires
+    returns-3
+    returns-4
+    returns-5)

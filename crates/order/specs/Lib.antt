@@ -1,0 +1,2 @@
+-- What the comparing walk promises.
+pub mod Compare

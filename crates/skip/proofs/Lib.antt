@@ -1,0 +1,4 @@
+-- Laws that the proofs of `skip` cite.
+pub mod Marks
+pub mod Passing
+pub mod Walking

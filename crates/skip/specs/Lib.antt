@@ -1,0 +1,2 @@
+-- What the contracts of `skip` cite besides the format.
+pub mod Tokens

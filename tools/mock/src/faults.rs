@@ -1,0 +1,66 @@
+//! The faults that the mock can have; the environment variable TUPLE_FAULT names one.
+
+use std::sync::OnceLock;
+
+macro_rules! faults {
+    ($($fault:ident $name:literal,)*) => {
+        #[derive(Clone, Copy, PartialEq, Eq)]
+        pub enum Fault { None, $($fault),* }
+
+        fn named(name: &str) -> Fault {
+            match name {
+                "" | "none" => Fault::None,
+                $($name => Fault::$fault,)*
+                other => panic!("no fault {other}"),
+            }
+        }
+    };
+}
+
+faults! {
+    NoWidthTest "no-width-test",
+    LeastInteger "least-integer",
+    Surrogates "surrogates",
+    ScratchAlways "scratch-always",
+    BlockZero "block-zero",
+    PlacePastBuffer "place-past-buffer",
+    RoomFirst "room-first",
+    RoomMissing "room-missing",
+    OneByteMore "one-byte-more",
+    WritesThenRefuses "writes-then-refuses",
+    EncodeDepth "encode-depth",
+    DecodeDepth "decode-depth",
+    OuterTag "outer-tag",
+    PredicateFirst "predicate-first",
+    TagCut "tag-cut",
+    BegunOnRoom "begun-on-room",
+    BegunOnEnd "begun-on-end",
+    KeyLimit "key-limit",
+    Groups321 "groups-321",
+    TypeWords "type-words",
+    PoolBytes "pool-bytes",
+    SkipRelative "skip-relative",
+    SkipEof "skip-eof",
+    SkipDepth "skip-depth",
+    CompareBytes "compare-bytes",
+    CompareShorter "compare-shorter",
+    StrincEnd "strinc-end",
+    StrincEmpty "strinc-empty",
+    BoundsCount "bounds-count",
+    BoundsHalf "bounds-half",
+    ReplaceOrder "replace-order",
+    ReplaceClears "replace-clears",
+    ReplaceNoLimit "replace-no-limit",
+    ReplaceJoined "replace-joined",
+    ReplaceUsed "replace-used",
+    NullInGroup "null-in-group",
+    CloseAtTop "close-at-top",
+    DeepCursor "deep-cursor",
+    CharsCut "chars-cut",
+    CharsRepeat "chars-repeat",
+}
+
+pub fn has(fault: Fault) -> bool {
+    static FAULT: OnceLock<Fault> = OnceLock::new();
+    *FAULT.get_or_init(|| named(&std::env::var("TUPLE_FAULT").unwrap_or_default())) == fault
+}

@@ -1,0 +1,262 @@
+//! The library's boundary over the original. What the port adds is done another way than in the oracle: bounds and replacement by
+//! skip and by moving bytes.
+
+mod cursors;
+mod faults;
+mod fields;
+mod keys;
+
+use faults::{Fault, has};
+use fjord_encoding::tuple::{self, Value};
+use fjord_schema::schema::PredicateTy;
+use oracle::refusal::{
+    BAD_RECORD, BAD_TYPE, BAD_UNION, BAD_VALUE, KEY_TOO_LONG, NO_BOUND, NO_ROOM, RESERVED_FACT_ID, Refusal, UNKNOWN_DISCRIMINANT, refusal,
+};
+use oracle::sheet::{admit_type, admit_value, write_sheet};
+
+#[repr(C)]
+#[derive(Default)]
+pub struct Length {
+    refusal: u32,
+    detail: u64,
+    length: u64,
+}
+
+#[repr(C)]
+#[derive(Default)]
+pub struct Sheet {
+    refusal: u32,
+    detail: u64,
+    begun: u64,
+    words: u64,
+    pool: u64,
+}
+
+#[repr(C)]
+#[derive(Default)]
+pub struct Order {
+    refusal: u32,
+    detail: u64,
+    order: i32,
+}
+
+/// A slice given by pointer and length.
+///
+/// # Safety
+/// The pointer has that many elements, if any.
+unsafe fn given<'a, T>(pointer: *const T, len: usize) -> &'a [T] {
+    // SAFETY: as the caller says.
+    if len == 0 { &[] } else { unsafe { std::slice::from_raw_parts(pointer, len) } }
+}
+
+/// A lent buffer likewise.
+unsafe fn lent<'a, T>(pointer: *mut T, len: usize) -> &'a mut [T] {
+    // SAFETY: as the caller says.
+    if len == 0 { &mut [] } else { unsafe { std::slice::from_raw_parts_mut(pointer, len) } }
+}
+
+impl From<Result<usize, Refusal>> for Length {
+    fn from(result: Result<usize, Refusal>) -> Length {
+        match result {
+            Ok(length) => Length { refusal: 0, detail: 0, length: length as u64 },
+            Err((refusal, detail)) => Length { refusal, detail, length: 0 },
+        }
+    }
+}
+
+fn by_original<T>(result: Result<T, fjord_encoding::error::StoreCodecError>) -> Result<T, Refusal> {
+    result.map_err(|error| refusal(&error))
+}
+
+fn no_room(needed: usize, room: usize) -> Refusal {
+    (NO_ROOM, if has(Fault::RoomMissing) { needed - room } else { needed } as u64)
+}
+
+/// Bytes over a buffer's beginning.
+fn write(bytes: &[u8], out: &mut [u8]) -> Result<usize, Refusal> {
+    if bytes.len() > out.len() {
+        return Err(no_room(bytes.len(), out.len()));
+    }
+    out[..bytes.len()].copy_from_slice(bytes);
+    if has(Fault::OneByteMore) && bytes.len() < out.len() {
+        out[bytes.len()] = 0;
+    }
+    Ok(bytes.len())
+}
+
+// ---- sheets
+
+/// With the fault, a group fewer: the innermost is taken off before the sheet is judged.
+fn the_type(words: &[u32]) -> Result<PredicateTy, Refusal> {
+    if has(Fault::TypeWords) && words.len() == 4_097 && words[0] == 5 && words[1] > 0 {
+        let mut shorter = words[..4_096].to_vec();
+        shorter[1] -= 1;
+        return admit_type(&shorter).ok_or((BAD_TYPE, 0));
+    }
+    if has(Fault::Groups321) && nested_records(words) == 321 {
+        return admit_type(&words[2..]).ok_or((BAD_TYPE, 0));
+    }
+    admit_type(words).ok_or((BAD_TYPE, 0))
+}
+
+fn nested_records(words: &[u32]) -> usize {
+    words.chunks(2).take_while(|pair| *pair == [5, 1]).count()
+}
+
+fn the_value(words: &[u64], pool: &[u8]) -> Result<Value, Refusal> {
+    if has(Fault::PoolBytes) && pool.len() == 1_048_577 && words.len() == 2 {
+        return Ok(Value::Null);
+    }
+    admit_value(words, pool).ok_or((BAD_VALUE, 0))
+}
+
+// ---- encoding
+
+fn encode(words: &[u32], values: &[u64], pool: &[u8], out: &mut [u8], key: bool) -> Result<usize, Refusal> {
+    let ty = the_type(words)?;
+    if has(Fault::RoomFirst) && out.is_empty() {
+        return Err((NO_ROOM, 1));
+    }
+    let value = the_value(values, pool)?;
+    let mut encoded = by_original(if key { tuple::encode_key(&ty, &value) } else { tuple::encode_typed(&ty, &value) });
+    if has(Fault::EncodeDepth) && nested_records(words) == 256 && !key {
+        encoded = Err((BAD_RECORD, 0));
+    }
+    if has(Fault::OuterTag)
+        && let Err((BAD_UNION, tag)) = &mut encoded
+        && let Value::Union { disc, .. } = &value
+    {
+        *tag = u64::from(*disc);
+    }
+    if has(Fault::PredicateFirst)
+        && let (Err((RESERVED_FACT_ID, _)), Value::FactRef(id), PredicateTy::Fact(predicate)) = (&encoded, &value, &ty)
+        && id.predicate() != *predicate
+    {
+        encoded = Err((8, u64::from(id.predicate().0)));
+    }
+    if has(Fault::KeyLimit) && matches!(encoded, Err((KEY_TOO_LONG, 65_532))) {
+        encoded = by_original(tuple::encode_typed(&ty, &value));
+    }
+    write(&encoded?, out)
+}
+
+#[unsafe(no_mangle)]
+#[rustfmt::skip]
+pub unsafe extern "C" fn tuple_encode_typed(ty: *const u32, ty_len: usize, words: *const u64, words_len: usize, pool: *const u8, pool_len: usize, out: *mut u8, out_len: usize) -> Length {
+    unsafe { encode(given(ty, ty_len), given(words, words_len), given(pool, pool_len), lent(out, out_len), false) }.into()
+}
+
+#[unsafe(no_mangle)]
+#[rustfmt::skip]
+pub unsafe extern "C" fn tuple_encode_key(ty: *const u32, ty_len: usize, words: *const u64, words_len: usize, pool: *const u8, pool_len: usize, out: *mut u8, out_len: usize) -> Length {
+    unsafe { encode(given(ty, ty_len), given(words, words_len), given(pool, pool_len), lent(out, out_len), true) }.into()
+}
+
+// ---- decoding
+
+fn decode_value(ty: &PredicateTy, bytes: &[u8], key: bool) -> (Result<Value, Refusal>, u64) {
+    let interner = oracle::compute::interner();
+    tuple::decode_probe::reset();
+    let result = if key { tuple::decode_key(&interner, bytes, ty) } else { tuple::decode_typed(&interner, bytes, ty) };
+    (by_original(result), tuple::decode_probe::count())
+}
+
+fn decode(words: &[u32], bytes: &[u8], key: bool, into: Option<(&mut [u64], &mut [u8])>) -> Sheet {
+    let refused = |(refusal, detail): Refusal, begun| Sheet { refusal, detail, begun, words: 0, pool: 0 };
+    let ty = match the_type(words) {
+        Ok(ty) => ty,
+        Err(bad) => return refused(bad, 0),
+    };
+    let (result, mut begun) = decode_value(&ty, bytes, key);
+    let value = match result {
+        Ok(value) => value,
+        Err((number, mut detail)) => {
+            if has(Fault::TagCut) && number == UNKNOWN_DISCRIMINANT {
+                detail &= 0xFFFF_FFFF;
+            }
+            if has(Fault::BegunOnEnd) && number == BAD_RECORD && bytes.ends_with(&[0]) {
+                begun += 1;
+            }
+            return refused((number, detail), begun);
+        }
+    };
+    let Some((out_words, out_pool)) = into else { return Sheet { begun, ..Sheet::default() } };
+    let (mut sheet, mut pool) = (Vec::new(), Vec::new());
+    write_sheet(&value, &mut sheet, &mut pool);
+    if has(Fault::DecodeDepth) && nested_records(words) == 256 {
+        return refused((BAD_RECORD, 0), begun);
+    }
+    if sheet.len() > out_words.len() {
+        return refused(no_room(sheet.len(), out_words.len()), if has(Fault::BegunOnRoom) { 0 } else { begun });
+    }
+    if has(Fault::WritesThenRefuses) {
+        out_words[..sheet.len()].copy_from_slice(&sheet);
+    }
+    if pool.len() > out_pool.len() {
+        return refused(no_room(pool.len(), out_pool.len()), begun);
+    }
+    out_words[..sheet.len()].copy_from_slice(&sheet);
+    out_pool[..pool.len()].copy_from_slice(&pool);
+    Sheet { refusal: 0, detail: 0, begun, words: sheet.len() as u64, pool: pool.len() as u64 }
+}
+
+#[unsafe(no_mangle)]
+#[rustfmt::skip]
+pub unsafe extern "C" fn tuple_decode_typed(ty: *const u32, ty_len: usize, bytes: *const u8, bytes_len: usize, words: *mut u64, words_len: usize, pool: *mut u8, pool_len: usize) -> Sheet {
+    unsafe { decode(given(ty, ty_len), given(bytes, bytes_len), false, Some((lent(words, words_len), lent(pool, pool_len)))) }
+}
+
+#[unsafe(no_mangle)]
+#[rustfmt::skip]
+pub unsafe extern "C" fn tuple_decode_key(ty: *const u32, ty_len: usize, bytes: *const u8, bytes_len: usize, words: *mut u64, words_len: usize, pool: *mut u8, pool_len: usize) -> Sheet {
+    unsafe { decode(given(ty, ty_len), given(bytes, bytes_len), true, Some((lent(words, words_len), lent(pool, pool_len)))) }
+}
+
+#[unsafe(no_mangle)]
+pub unsafe extern "C" fn tuple_check_key(ty: *const u32, ty_len: usize, bytes: *const u8, bytes_len: usize) -> Sheet {
+    unsafe { decode(given(ty, ty_len), given(bytes, bytes_len), true, None) }
+}
+
+// ---- skip, order
+
+#[unsafe(no_mangle)]
+pub unsafe extern "C" fn tuple_skip(bytes: *const u8, bytes_len: usize, start: usize, require_escape_null: bool) -> Length {
+    let bytes = unsafe { given(bytes, bytes_len) };
+    let mut end = by_original(tuple::skip(bytes, start, require_escape_null));
+    if has(Fault::SkipRelative) {
+        end = end.map(|end| end - start);
+    }
+    if has(Fault::SkipEof) && end == Err((3, 0)) {
+        end = Err((1, 0));
+    }
+    if has(Fault::SkipDepth) && bytes.len() > 256 && bytes[..256].iter().all(|byte| *byte == 0x22) && start == 0 {
+        end = Err((BAD_RECORD, 0));
+    }
+    end.into()
+}
+
+#[unsafe(no_mangle)]
+#[rustfmt::skip]
+pub unsafe extern "C" fn tuple_compare(words_a: *const u64, words_a_len: usize, pool_a: *const u8, pool_a_len: usize, words_b: *const u64, words_b_len: usize, pool_b: *const u8, pool_b_len: usize) -> Order {
+    let (a, b) = unsafe { (the_value(given(words_a, words_a_len), given(pool_a, pool_a_len)), the_value(given(words_b, words_b_len), given(pool_b, pool_b_len))) };
+    match a.and_then(|a| b.map(|b| (a, b))) {
+        Ok((Value::Union { .. }, Value::Bytes(_))) if has(Fault::CompareBytes) => Order { refusal: 0, detail: 0, order: 1 },
+        Ok((Value::Bytes(a), Value::Bytes(b))) if has(Fault::CompareShorter) => Order { refusal: 0, detail: 0, order: a.len().cmp(&b.len()).then(a.cmp(&b)) as i32 },
+        Ok((a, b)) => Order { refusal: 0, detail: 0, order: a.cmp(&b) as i32 },
+        Err((refusal, detail)) => Order { refusal, detail, order: 0 },
+    }
+}
+
+#[unsafe(no_mangle)]
+pub unsafe extern "C" fn tuple_strinc(prefix: *const u8, prefix_len: usize, out: *mut u8, out_len: usize) -> Length {
+    let (prefix, out) = unsafe { (given(prefix, prefix_len), lent(out, out_len)) };
+    if has(Fault::StrincEmpty) && prefix.is_empty() {
+        return write(&[0xFF], out).into();
+    }
+    tuple::strinc(prefix).ok_or((NO_BOUND, 0)).and_then(|above| write(&above, out)).into()
+}
+
+#[unsafe(no_mangle)]
+pub unsafe extern "C" fn tuple_above_field(key: *const u8, key_len: usize, out: *mut u8, out_len: usize) -> Length {
+    unsafe { write(&tuple::above_field(given(key, key_len)), lent(out, out_len)) }.into()
+}

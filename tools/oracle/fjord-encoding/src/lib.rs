@@ -1,0 +1,3 @@
+//! The original's two modules, as they are.
+pub mod error;
+pub mod tuple;
