@@ -127,8 +127,10 @@ fn sheets() {
     io::write_all(1, b"sheets\n");
     judged(sheet::admit_type(&[0u32; 0]));
     judged(sheet::admit_type(&[5u32, 2, 3, 1]));
+    judged(sheet::admit_type(&[5u32, 4294967295, 1]));
     judged(sheet::admit_value(&[2u64, 5], b"abc"));
     judged(sheet::admit_value(&[5u64, 2, 3, 1, 1, 7], b"\x0a"));
+    judged(sheet::admit_value(&[6u64, 4294967296, 1, 0], b""));
 }
 
 fn others() {
