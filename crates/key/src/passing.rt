@@ -1,4 +1,9 @@
-// The answers of passing over the bare fields of a key by their types, keeping no value.
+// Passing over the bare fields of a key by their types, keeping no value.
+use read::Walked;
+ghost use Prim.Native.Nat.{_≤_};
+ghost use lib.ListN.{length};
+ghost use Rattle.read.specs.Walk.{TypeAt, FieldsAt};
+ghost use Rattle.key.specs.Passing.{PassesValue, PassesFields};
 
 // The next places in the type and in the key, or the refusal.
 pub enum Passed {
@@ -22,4 +27,61 @@ pub enum Split {
 pub enum Field {
     At(usize, usize, usize),
     Refused(u32, u64),
+}
+
+// One value at depth 0.
+pub fn pass_value(ty: &[u32], at: usize, bytes: &[u8], i: usize) -> Passed
+    requires { ⌜ TypeAt (now ty) at ⌝ ∗ ⌜ i ≤ length (now bytes) ⌝ }
+    ensures { λ r. ⌜ PassesValue (now (ty .entry)) at (now (bytes .entry)) i r ⌝ }
+{
+    let mut words = [0u64; 1];
+    let mut pool = [0u8; 1];
+    match read::walk_value(
+        ty,
+        at,
+        bytes,
+        i,
+        0,
+        &mut words[..0],
+        0,
+        &mut pool[..0],
+        0,
+        0,
+    ) {
+        Walked::Bad {
+            no,
+            detail,
+            begun: _,
+        } => Passed::Refused(no, detail),
+        Walked::Good {
+            at: end,
+            next,
+            words: _,
+            pool: _,
+            begun: _,
+        } => Passed::To(end, next),
+    }
+}
+
+// The n bare fields whose types stand at a place of the sheet, from a place of the key on.
+pub fn pass_fields(ty: &[u32], at: usize, n: u32, bytes: &[u8], i: usize) -> Passed
+    requires { ⌜ FieldsAt (now ty) at n ⌝ ∗ ⌜ i ≤ length (now bytes) ⌝ }
+    ensures { λ r. ⌜ PassesFields (now (ty .entry)) at n (now (bytes .entry)) i r ⌝ }
+{
+    let mut a = at;
+    let mut left = n;
+    let mut j = i;
+    while 0 < left {
+        match pass_value(ty, a, bytes, j) {
+            Passed::Refused(no, detail) => {
+                return Passed::Refused(no, detail);
+            }
+            Passed::To(end, next) => {
+                a = end;
+                j = next;
+            }
+        }
+        left -= 1;
+    }
+    Passed::To(a, j)
 }
