@@ -1,9 +1,10 @@
 // Passing over the bare fields of a key by their types, keeping no value.
 use read::Walked;
+ghost use mathlib.Core.Path.{_≡_};
 ghost use Prim.Native.Nat.{_≤_};
 ghost use lib.ListN.{length};
 ghost use Rattle.read.specs.Walk.{TypeAt, FieldsAt};
-ghost use Rattle.key.specs.Passing.{PassesValue, PassesFields};
+ghost use Rattle.key.specs.Passing.{PassesValue, PassesFields, Ends};
 
 // The next places in the type and in the key, or the refusal.
 pub enum Passed {
@@ -27,6 +28,12 @@ pub enum Split {
 pub enum Field {
     At(usize, usize, usize),
     Refused(u32, u64),
+}
+
+fn wide(x: u8) -> u64
+    ensures { λ r. ⌜ r ≡ x ⌝ }
+{
+    x as u64
 }
 
 // One value at depth 0.
@@ -84,4 +91,20 @@ pub fn pass_fields(ty: &[u32], at: usize, n: u32, bytes: &[u8], i: usize) -> Pas
         left -= 1;
     }
     Passed::To(a, j)
+}
+
+// The last n fields of a key, with nothing left over.
+pub fn pass_rest(ty: &[u32], at: usize, n: u32, bytes: &[u8], i: usize) -> Rest
+    requires { ⌜ FieldsAt (now ty) at n ⌝ ∗ ⌜ i ≤ length (now bytes) ⌝ }
+    ensures { λ r. ⌜ Ends (now (ty .entry)) at n (now (bytes .entry)) i r ⌝ }
+{
+    match pass_fields(ty, at, n, bytes, i) {
+        Passed::Refused(no, detail) => Rest::Refused(no, detail),
+        Passed::To(_, next) => {
+            if next < bytes.len() {
+                return Rest::Refused(format::UNEXPECTED_MARK, wide(bytes[next]));
+            }
+            Rest::Whole
+        }
+    }
 }
