@@ -4,7 +4,7 @@ ghost use mathlib.Core.Path.{_≡_};
 ghost use Prim.Native.Nat.{_≤_};
 ghost use lib.ListN.{length};
 ghost use Rattle.read.specs.Walk.{TypeAt, FieldsAt};
-ghost use Rattle.key.specs.Passing.{PassesValue, PassesFields, Ends};
+ghost use Rattle.key.specs.Passing.{PassesValue, PassesFields, Ends, Splits};
 
 // The next places in the type and in the key, or the refusal.
 pub enum Passed {
@@ -106,5 +106,19 @@ pub fn pass_rest(ty: &[u32], at: usize, n: u32, bytes: &[u8], i: usize) -> Rest
             }
             Rest::Whole
         }
+    }
+}
+
+// Where the first k of a key's n fields end.
+pub fn split_key(ty: &[u32], n: u32, key: &[u8], k: u32) -> Split
+    requires { ⌜ FieldsAt (now ty) 2 n ⌝ ∗ ⌜ k ≤ n ⌝ }
+    ensures { λ r. ⌜ Splits (now (ty .entry)) n (now (key .entry)) k r ⌝ }
+{
+    match pass_fields(ty, 2, k, key, 0) {
+        Passed::Refused(no, detail) => Split::Refused(no, detail),
+        Passed::To(a, start) => match pass_rest(ty, a, n - k, key, start) {
+            Rest::Refused(no, detail) => Split::Refused(no, detail),
+            Rest::Whole => Split::At(start),
+        },
     }
 }
