@@ -11,7 +11,7 @@ use lib.ListN.{length, take, drop}
 use Rattle.format.specs.Answer.{if, Answer, ok, refused, andThen, BadValue, NoRoom, KeyTooLong}
 use Rattle.format.specs.Tree.{Ty, Val}
 use Rattle.format.specs.TypeSheet.{isSome, maxGroups, nesting}
-use Rattle.format.specs.ValueSheet.{valueOf}
+use Rattle.format.specs.ValueSheet.{valueOf, maxValueWords}
 use Rattle.format.specs.Encode.{valBytes, encode, fits, fine, maxKeyBytes}
 use Rattle.format.specs.Calls.{Called, over, written, withValue}
 use Rattle.format.proofs.Tests.{leb-yes, leb-no, ltb-yes}
@@ -31,6 +31,10 @@ no-value words pool h = go (valueOf words pool) h
     go : (o : Option Val) → isSome o ≡ false → o ≡ none
     go none e = refl
     go (some t) e = absurd (let z : _≡_ {A = ℕ} 0 1 = cc in omega arith)
+
+-- an admitted sheet's sizes
+pub sizes : (words pool : List ℕ) → isSome (valueOf words pool) ≡ true → (length words ≤ maxValueWords) × (length pool ≤ maxValueWords)
+sizes words pool h = let v = values.its-tree words pool h in (v .1 .long, v .1 .large)
 
 module _ (ty : List ℕ) (at : ℕ) (buffer : List ℕ) (used start end : ℕ) (words pool : List ℕ) where
   pub v-bad : isSome (valueOf words pool) ≡ false → ValueStands ty at buffer used start end words pool (replacing.Refused BadValue 0) buffer

@@ -1,7 +1,9 @@
-// Keys of record types: passing over their fields, and the answers of the calls that bound and change them. What those calls rest on stands in proofs/.
+// Keys of record types: the bounds call and replacement, over passing a key's fields. What they rest on stands in proofs/.
 mod bounding;
 mod passing;
 mod replacing;
 
 pub use bounding::Bounded;
+pub use bounding::bounds;
 pub use replacing::Replaced;
+pub use replacing::replace;

@@ -1,10 +1,10 @@
 // Passing over the bare fields of a key by their types, keeping no value.
 use read::Walked;
 ghost use mathlib.Core.Path.{_≡_};
-ghost use Prim.Native.Nat.{_≤_};
+ghost use Prim.Native.Nat.{_≤_, _<_};
 ghost use lib.ListN.{length};
 ghost use Rattle.read.specs.Walk.{TypeAt, FieldsAt};
-ghost use Rattle.key.specs.Passing.{PassesValue, PassesFields, Ends, Splits};
+ghost use Rattle.key.specs.Passing.{PassesValue, PassesFields, Ends, Splits, Finds};
 
 // The next places in the type and in the key, or the refusal.
 pub enum Passed {
@@ -119,6 +119,23 @@ pub fn split_key(ty: &[u32], n: u32, key: &[u8], k: u32) -> Split
         Passed::To(a, start) => match pass_rest(ty, a, n - k, key, start) {
             Rest::Refused(no, detail) => Split::Refused(no, detail),
             Rest::Whole => Split::At(start),
+        },
+    }
+}
+
+// A field of a key of n fields, where the whole key is good.
+pub fn find_field(ty: &[u32], n: u32, key: &[u8], k: u32) -> Field
+    requires { ⌜ FieldsAt (now ty) 2 n ⌝ ∗ ⌜ k < n ⌝ }
+    ensures { λ r. ⌜ Finds (now (ty .entry)) n (now (key .entry)) k r ⌝ }
+{
+    match pass_fields(ty, 2, k, key, 0) {
+        Passed::Refused(no, detail) => Field::Refused(no, detail),
+        Passed::To(a, start) => match pass_value(ty, a, key, start) {
+            Passed::Refused(no, detail) => Field::Refused(no, detail),
+            Passed::To(behind, end) => match pass_rest(ty, behind, n - k - 1, key, end) {
+                Rest::Refused(no, detail) => Field::Refused(no, detail),
+                Rest::Whole => Field::At(a, start, end),
+            },
         },
     }
 }
