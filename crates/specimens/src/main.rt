@@ -5,41 +5,19 @@ use scalar::GotPart;
 use scalar::Put;
 use scalar::UnionTag;
 
-fn hex(b: u8) {
-    io::print_hex(1, b as u64, 2);
-}
-
-// The first n bytes of a buffer, and a line's end.
-fn show(s: &[u8], n: usize) {
-    for i in 0..s.len() {
-        if i < n {
-            hex(s[i]);
-        }
-    }
-    io::write_all(1, b"\n");
-}
-
-fn refusal(no: u32, detail: u64) {
-    io::write_all(1, b"refused ");
-    io::print_decimal(1, no as u64);
-    io::write_all(1, b" ");
-    io::print_decimal(1, detail);
-    io::write_all(1, b"\n");
-}
-
 // An integer written into a buffer of its own.
 fn int_line(w: u64) {
     let mut buf = [0u8; 9];
     match scalar::put_i64(&mut buf, 0, w) {
-        Put::Refused(no, detail) => refusal(no, detail),
-        Put::At(n) => show(&buf, n),
+        Put::Refused(no, detail) => show::refusal(no, detail),
+        Put::At(n) => show::line(&buf, n),
     }
 }
 
 // An integer read: its word and the bytes it took.
 fn get_line(s: &[u8]) {
     match scalar::get_i64(s) {
-        GotInt::Refused(no, detail) => refusal(no, detail),
+        GotInt::Refused(no, detail) => show::refusal(no, detail),
         GotInt::Value(w, used) => {
             io::print_hex(1, w, 16);
             io::write_all(1, b" ");
@@ -52,29 +30,29 @@ fn get_line(s: &[u8]) {
 fn str_line(s: &[u8]) {
     let mut buf = [0u8; 16];
     match scalar::put_str(&mut buf, 0, s) {
-        Put::Refused(no, detail) => refusal(no, detail),
-        Put::At(n) => show(&buf, n),
+        Put::Refused(no, detail) => show::refusal(no, detail),
+        Put::At(n) => show::line(&buf, n),
     }
 }
 
 // A string read: its payload, in the key or in the scratch buffer.
 fn text_line(key: &[u8], scratch: &mut [u8]) {
     match scalar::get_str(key, scratch) {
-        GotPart::Refused(no, detail) => refusal(no, detail),
+        GotPart::Refused(no, detail) => show::refusal(no, detail),
         GotPart::InKey(a, n, _) => {
             if a <= key.len() {
-                show(&key[a..], n);
+                show::line(&key[a..], n);
             }
         }
-        GotPart::InScratch(n, _) => show(scratch, n),
+        GotPart::InScratch(n, _) => show::line(scratch, n),
     }
 }
 
 fn strinc_line(prefix: &[u8]) {
     let mut buf = [0u8; 8];
     match ends::strinc(prefix, &mut buf) {
-        Written::Refused(no, detail) => refusal(no, detail),
-        Written::Done(n) => show(&buf, n),
+        Written::Refused(no, detail) => show::refusal(no, detail),
+        Written::Done(n) => show::line(&buf, n),
     }
 }
 
@@ -137,8 +115,8 @@ fn others() {
     io::write_all(1, b"tags, references, ends\n");
     let tag = UnionTag::new(1);
     let tagged = tag.bytes;
-    show(&tagged, tag.len);
-    show(&scalar::fact_ref_bytes(0x7_0000_0001), 9);
+    show::line(&tagged, tag.len);
+    show::line(&scalar::fact_ref_bytes(0x7_0000_0001), 9);
     strinc_line(b"\x53\x0a\x00");
     strinc_line(b"\x0a\xff");
     strinc_line(b"\xff");

@@ -1,0 +1,271 @@
+// Runs each example of document 01's table that the whole-value calls can show, and its specimens of nested records and of the longest key.
+use decode::Decoded;
+use encode::Encoded;
+use ends::Written;
+use key::Bounded;
+use key::Replaced;
+use order::Compared;
+use skip::Skipped;
+
+fn encoded(r: Encoded, out: &[u8]) {
+    match r {
+        Encoded::Refused(no, detail) => show::refusal(no, detail),
+        Encoded::Done(n) => show::line(out, n),
+    }
+}
+
+// A value encoded with room for sixteen bytes.
+fn encode_line(ty: &[u32], words: &[u64], pool: &[u8]) {
+    let mut out = [0u8; 16];
+    let r = encode::encode_typed(ty, words, pool, &mut out);
+    encoded(r, &out);
+}
+
+fn key_line(ty: &[u32], words: &[u64], pool: &[u8]) {
+    let mut out = [0u8; 16];
+    let r = encode::encode_key(ty, words, pool, &mut out);
+    encoded(r, &out);
+}
+
+// The values begun stand behind each answer of decoding.
+fn begun_line(begun: usize) {
+    show::text(b"begun ");
+    show::number(begun as u64);
+    show::text(b"\n");
+}
+
+fn decoded(r: Decoded) {
+    match r {
+        Decoded::Refused { no, detail, begun } => {
+            show::refusal(no, detail);
+            begun_line(begun);
+        }
+        Decoded::Done { words, pool, begun } => {
+            show::text(b"words ");
+            show::number(words as u64);
+            show::text(b" pool ");
+            show::number(pool as u64);
+            show::text(b"\n");
+            begun_line(begun);
+        }
+    }
+}
+
+fn decode_line(ty: &[u32], bytes: &[u8]) {
+    let mut words = [0u64; 8];
+    let mut pool = [0u8; 8];
+    decoded(decode::decode_typed(ty, bytes, &mut words, &mut pool));
+}
+
+fn decode_key_line(ty: &[u32], bytes: &[u8]) {
+    let mut words = [0u64; 8];
+    let mut pool = [0u8; 8];
+    decoded(decode::decode_key(ty, bytes, &mut words, &mut pool));
+}
+
+fn skip_line(bytes: &[u8], start: usize, require_escape_null: bool) {
+    match skip::skip(bytes, start, require_escape_null) {
+        Skipped::Refused(no, detail) => show::refusal(no, detail),
+        Skipped::End(n) => {
+            show::text(b"end ");
+            show::number(n as u64);
+            show::text(b"\n");
+        }
+    }
+}
+
+fn compare_line(a: &[u64], b: &[u64]) {
+    match order::compare(a, b"", b, b"") {
+        Compared::Refused(no, detail) => show::refusal(no, detail),
+        Compared::Less => show::text(b"less\n"),
+        Compared::Equal => show::text(b"equal\n"),
+        Compared::Greater => show::text(b"greater\n"),
+    }
+}
+
+fn bounds_line(ty: &[u32], key: &[u8], k: usize) {
+    let mut lower = [0u8; 8];
+    let mut upper = [0u8; 8];
+    match key::bounds(ty, key, k, &mut lower, &mut upper) {
+        Bounded::Refused(no, detail) => show::refusal(no, detail),
+        Bounded::Done(low, high) => {
+            show::line(&lower, low);
+            show::line(&upper, high);
+        }
+    }
+}
+
+// A field of the key 53 0A 00 49 07 replaced by an integer.
+fn replace_line(field: usize, words: &[u64]) {
+    let mut buffer = [0x53, 0x0a, 0, 0x49, 7, 0xee, 0xee];
+    match key::replace(&[5, 2, 3, 1], &mut buffer, 5, field, words, b"") {
+        Replaced::Refused(no, detail) => show::refusal(no, detail),
+        Replaced::Done(n) => show::line(&buffer, n),
+    }
+    show::line(&buffer, 7);
+}
+
+fn strinc_line(prefix: &[u8]) {
+    let mut out = [0u8; 8];
+    match ends::strinc(prefix, &mut out) {
+        Written::Refused(no, detail) => show::refusal(no, detail),
+        Written::Done(n) => show::line(&out, n),
+    }
+}
+
+fn first_six() {
+    show::text(b"1\n");
+    decode_line(&[1], b"");
+    show::text(b"2\n");
+    decode_line(&[1], b"\x21\x00");
+    show::text(b"3\n");
+    skip_line(b"\x00", 0, true);
+    skip_line(b"\x00", 0, false);
+    skip_line(b"\x00\xff", 0, true);
+    show::text(b"4\n");
+    decode_line(&[2], b"\x21\x80\x00");
+    show::text(b"5\n");
+    decode_line(&[1], b"\x4a\x00\x01");
+    show::text(b"6\n");
+    encode_line(&[5, 1, 1], &[5, 0], b"");
+}
+
+fn eight_to_twelve() {
+    show::text(b"8\n");
+    encode_line(&[4, 7], &[4, 0x8_0000_0001], b"");
+    encode_line(&[4, 7], &[4, 0x7_0000_0001], b"");
+    show::text(b"9\n");
+    decode_line(&[4, 0], b"\x51\x00\x00\x00\x00\x00\x00\x00\x00");
+    show::text(b"10\n");
+    decode_line(&[6, 1, 1, 1], b"\x52\x49\x02\x48\x00");
+    decode_line(&[6, 1, 1, 1], b"\x52\x49\x01\x48\x00");
+    show::text(b"11\n");
+    encode_line(&[1], &[0], b"");
+    show::text(b"12\n");
+    encode_line(&[6, 1, 1, 1], &[6, 1, 0], b"");
+    encode_line(&[6, 1, 1, 1], &[6, 1, 1, 0], b"");
+}
+
+fn thirteen_to_sixteen() {
+    show::text(b"13\n");
+    decode_line(&[1], b"\x50\x80\x00\x00\x00\x00\x00\x00\x00");
+    show::text(b"14\n");
+    decode_line(&[1], b"\x40\x7f\xff\xff\xff\xff\xff\xff\xfe");
+    show::text(b"15\n");
+    encode_line(&[], &[1, 0], b"");
+    decode_line(&[], b"\x48");
+    show::text(b"16\n");
+    encode_line(&[2], &[2, 5], b"abc");
+    compare_line(&[1, 7], &[1]);
+    compare_line(&[1, 7], &[1, 0xffff_ffff_ffff_ffff]);
+    compare_line(&[0], &[1, 7]);
+}
+
+fn seventeen_to_nineteen() {
+    let mut none = [0u8; 0];
+    show::text(b"17\n");
+    encoded(encode::encode_typed(&[1], &[1, 0], b"", &mut none), b"");
+    show::text(b"18\n");
+    replace_line(2, &[1, 0]);
+    bounds_line(&[1], b"\x48", 0);
+    bounds_line(&[5, 2, 3, 1], b"\x53\x0a\x00\x49\x07", 3);
+    bounds_line(&[5, 2, 3, 1], b"\x53\x0a\x00\x49\x07", 1);
+    replace_line(1, &[1, 0]);
+    replace_line(1, &[1, 256]);
+    show::text(b"19\n");
+    strinc_line(b"\xff");
+    strinc_line(b"\x0a\xff");
+}
+
+fn keys() {
+    show::text(b"keys\n");
+    key_line(&[5, 0], &[5, 0], b"");
+    encode_line(&[5, 0], &[5, 0], b"");
+    key_line(&[5, 2, 3, 1], &[5, 2, 3, 1, 1, 7], b"\x0a");
+    decode_key_line(&[5, 2, 3, 1], b"\x53\x0a\x00\x49\x07");
+    decode_key_line(&[5, 2, 3, 1], b"\x53\x0a\x00\xff\x00\x49\x07");
+    decode_key_line(&[5, 2, 3, 1], b"\x53\x0a");
+    decode_key_line(&[5, 2, 3, 1], b"\x53\x0a\x00\x49\x07\x00");
+    skip_line(b"\x53\x0a\x00\xff\x00\x49\x07", 0, false);
+    skip_line(b"\x53\x0a\x00\xff\x00\x49\x07", 5, false);
+    skip_line(b"\x53\x0a\x00\xff\x00\x49\x07", 8, false);
+}
+
+// The place before n's, 2^64 - 1 for 0.
+fn last_of(n: usize) -> usize {
+    std::num::wrapping_sub_usize(n, 1)
+}
+
+// Records of one field, one in another, the innermost empty: a kind, a count, and so on.
+fn word_at(i: usize, last: usize) -> u64 {
+    if i == last {
+        return 0;
+    }
+    if i % 2 == 0 { 5 } else { 1 }
+}
+
+fn type_at(i: usize, last: usize) -> u32 {
+    if i == last {
+        return 0;
+    }
+    if i % 2 == 0 { 5 } else { 1 }
+}
+
+fn fill_type(ty: &mut [u32]) {
+    let last = last_of(ty.len());
+    for i in 0..ty.len() {
+        ty[i] = type_at(i, last);
+    }
+}
+
+fn fill_words(words: &mut [u64]) {
+    let last = last_of(words.len());
+    for i in 0..words.len() {
+        words[i] = word_at(i, last);
+    }
+}
+
+fn length_line(r: Encoded) {
+    match r {
+        Encoded::Refused(no, detail) => show::refusal(no, detail),
+        Encoded::Done(len) => {
+            show::text(b"bytes ");
+            show::number(len as u64);
+            show::text(b"\n");
+        }
+    }
+}
+
+fn nested(ty: &mut [u32], words: &mut [u64], out: &mut [u8]) {
+    fill_type(ty);
+    fill_words(words);
+    length_line(encode::encode_typed(ty, words, b"", out));
+}
+
+fn nested_records() {
+    let mut out = [0u8; 514];
+    show::text(b"256 and 257 nested records\n");
+    nested(&mut [0u32; 512], &mut [0u64; 512], &mut out);
+    nested(&mut [0u32; 514], &mut [0u64; 514], &mut out);
+}
+
+fn bytes_key(pool: &[u8], out: &mut [u8]) {
+    length_line(encode::encode_key(&[3], &[3, pool.len() as u64], pool, out));
+}
+
+fn longest_key() {
+    let mut out = [0u8; 65532];
+    show::text(b"65,529 and 65,530 bytes of 01\n");
+    bytes_key(&[1u8; 65529], &mut out);
+    bytes_key(&[1u8; 65530], &mut out);
+}
+
+fn main() {
+    first_six();
+    eight_to_twelve();
+    thirteen_to_sixteen();
+    seventeen_to_nineteen();
+    keys();
+    nested_records();
+    longest_key();
+}
