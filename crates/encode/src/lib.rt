@@ -28,12 +28,12 @@ pub fn encode_typed(ty: &[u32], words: &[u64], pool: &[u8], out: &mut [u8]) -> E
     if no != 0 {
         return Encoded::Refused(no, r.detail);
     }
-    let len = r.len;
-    if out.len() < len {
-        return Encoded::Refused(format::NO_ROOM, len as u64);
+    let n = r.len;
+    if out.len() < n {
+        return Encoded::Refused(format::NO_ROOM, n as u64);
     }
     write::put_value(words, pool, out, write::stand(0, 0, 0, 0));
-    Encoded::Done(len)
+    Encoded::Done(n)
 }
 
 // Measures a key: a record's fields bare at depth 0, any other type as a whole.

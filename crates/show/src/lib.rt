@@ -35,3 +35,11 @@ pub fn refusal(no: u32, detail: u64) {
     io::print_decimal(1, detail);
     io::write_all(1, b"\n");
 }
+
+// The first n bytes, or all of a shorter one.
+pub fn first(s: &[u8], n: usize) -> &[u8] {
+    if n < s.len() {
+        return &s[..n];
+    }
+    s
+}
