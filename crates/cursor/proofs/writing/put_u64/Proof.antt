@@ -1,0 +1,28 @@
+-- `put_u64` meets its contract.
+use Rattle.scalar.specs.Answers.{putAnswer}
+use Rattle.cursor.specs.Steps.{cursorOf}
+use borrow.Author.Needs.{needs}
+use Rattle.cursor.proofs.WriteSteps.{u64-left}
+use Rattle.cursor.proofs.writing.put_u64.Statement.{statement}
+use Rattle.cursor.proofs.writing.put_u64.Tie as tie
+
+put-u64-requires : tie.Need-put-u64-requires
+put-u64-requires c κs = search needs
+
+depth-of-requires : tie.Need-depth-of-requires
+depth-of-requires c κs = search needs
+
+wrote-requires : tie.Need-wrote-requires
+wrote-requires c κs = search needs
+
+same-length : tie.Need-same-length
+same-length c = search needs
+
+returns : tie.Need-returns
+returns c =
+    let a = c .before .before .before .before .before .before .before .args in
+    u64-left (a .buf .now) (cursorOf (a .c)) (a .n) (c .before .depth-of .result) (c .before .depth-of .ensures) (putAnswer (c .before .before .before .before .put-u64 .result)) _ (c .wrote .result) (c .wrote .ensures) (c .before .before .before .before .put-u64 .ensures .0) (c .before .before .before .before .put-u64 .ensures .1)
+
+pub put-u64-spec : {M : Type 1} → statement M
+put-u64-spec =
+    tie.close (tie.spec put-u64-requires depth-of-requires wrote-requires same-length returns)
