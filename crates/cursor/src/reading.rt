@@ -181,10 +181,10 @@ pub fn open_record(key: &[u8], c: Cursor) -> Moved
         return Moved::Refused(format::UNEXPECTED_MARK, wide(mark));
     }
     let depth = depth_of(c);
-    if format::MAX_RECORD_DEPTH <= depth {
-        return Moved::Refused(format::BAD_RECORD, 0);
+    if depth < format::MAX_RECORD_DEPTH {
+        return Moved::To(on_to(c, 1, depth + 1));
     }
-    Moved::To(on_to(c, 1, depth + 1))
+    Moved::Refused(format::BAD_RECORD, 0)
 }
 
 // Opens a union: its mark, its discriminant, then its depth. The discriminant may be any 64-bit number.

@@ -131,10 +131,10 @@ pub fn put_union(buf: &mut [u8], c: Cursor, disc: u32) -> Moved
 pub fn put_end(buf: &mut [u8], c: Cursor) -> Moved
     ensures { λ r. ⌜ Leaves (cursor.putEnd (now (buf .entry)) (cursorOf c)) r (now (buf .exit)) ⌝ }
 {
-    if c.depth == 0 {
-        return Moved::Refused(format::BAD_RECORD, 0);
+    if 0 < c.depth {
+        let at = c.at;
+        let end = [format::MARK_TERM];
+        return wrote(put_plain(buf, at, &end), depth_of(c) - 1);
     }
-    let at = c.at;
-    let end = [format::MARK_TERM];
-    wrote(put_plain(buf, at, &end), depth_of(c) - 1)
+    Moved::Refused(format::BAD_RECORD, 0)
 }

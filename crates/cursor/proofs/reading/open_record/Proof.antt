@@ -38,14 +38,6 @@ returns-2 c =
 depth-of-requires : tie.Need-depth-of-requires
 depth-of-requires c κs = search needs
 
-returns-3 : tie.Need-returns-3
-returns-3 c =
-    let a = c .before .before .before .before .before .before .before .args in
-    let q = cursorOf (a .c) in
-    let b = c .before .before .before .before .before .remaining .result .now in
-    let e = c .before .before .before .before .before .remaining .ensures in
-    record-stays (a .key .now) q b e (c .before .depth-of .result) (c .before .depth-of .ensures) (record-deep (c .before .depth-of .result) b (c .before .before .before .before .if1 .left) (c .before .before .if2 .left) (c .if3 .taken))
-
 add-on-to : tie.Need-add-on-to
 add-on-to c = search needs
 
@@ -59,13 +51,21 @@ on-to-requires c κs =
     let h : a .c .at + 1 < 2 ^ 64 = omega (arith, c .before .before .before .before .if1 .left) in
     h
 
-returns-4 : tie.Need-returns-4
-returns-4 c =
+returns-3 : tie.Need-returns-3
+returns-3 c =
     let a = c .before .before .before .before .before .before .before .before .args in
     let q = cursorOf (a .c) in
     let b = c .before .before .before .before .before .before .remaining .result .now in
     let e = c .before .before .before .before .before .before .remaining .ensures in
-    record-moves (a .key .now) q b e (c .before .before .depth-of .result) (c .before .before .depth-of .ensures) (cursorOf (c .on-to .result)) (record-open (c .before .before .depth-of .result) b (c .before .before .before .before .before .if1 .left) (c .before .before .before .if2 .left) (c .before .if3 .left)) (omega (arith, c .before .before .before .before .before .if1 .left)) (c .on-to .ensures)
+    record-moves (a .key .now) q b e (c .before .before .depth-of .result) (c .before .before .depth-of .ensures) (cursorOf (c .on-to .result)) (record-open (c .before .before .depth-of .result) b (c .before .before .before .before .before .if1 .left) (c .before .before .before .if2 .left) (c .before .if3 .taken)) (omega (arith, c .before .before .before .before .before .if1 .left)) (c .on-to .ensures)
+
+returns-4 : tie.Need-returns-4
+returns-4 c =
+    let a = c .before .before .before .before .before .before .before .args in
+    let q = cursorOf (a .c) in
+    let b = c .before .before .before .before .before .remaining .result .now in
+    let e = c .before .before .before .before .before .remaining .ensures in
+    record-stays (a .key .now) q b e (c .before .depth-of .result) (c .before .depth-of .ensures) (record-deep (c .before .depth-of .result) b (c .before .before .before .before .if1 .left) (c .before .before .if2 .left) (c .if3 .left))
 
 pub open-record-spec : {M : Type 1} → statement M
 open-record-spec =
@@ -77,7 +77,7 @@ open-record-spec =
     wide-requires
     returns-2
     depth-of-requires
-    returns-3
     add-on-to
     on-to-requires
+    returns-3
     returns-4)

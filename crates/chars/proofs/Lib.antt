@@ -1,0 +1,2 @@
+-- Laws of a step, one for each way out.
+pub mod StepLaws

@@ -1,0 +1,2 @@
+-- What the contracts cite beside the reader's definitions in format.
+pub mod Reader
