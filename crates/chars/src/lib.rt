@@ -120,7 +120,7 @@ pub fn step_at(s: &[u8], at: usize, done: bool) -> Stepped
 pub struct Opening {
     pub refusal: u32,
     pub detail: u64,
-    pub done: bool,
+    pub finished: bool,
 }
 
 fn wide(x: u8) -> u64
@@ -131,13 +131,13 @@ fn wide(x: u8) -> u64
 
 // The mark of a string: the work of `str_chars`.
 pub fn open_at(bytes: &[u8]) -> Opening
-    ensures { λ r. ⌜ (openedOf (r .refusal) (r .detail) (drop 1 (now (bytes .entry))) ≡ chars.opened (now (bytes .entry))) × (r .done ≡ closed (r .refusal)) ⌝ }
+    ensures { λ r. ⌜ (openedOf (r .refusal) (r .detail) (drop 1 (now (bytes .entry))) ≡ chars.opened (now (bytes .entry))) × (r .finished ≡ closed (r .refusal)) ⌝ }
 {
     if bytes.len() == 0 {
         return Opening {
             refusal: format::UNEXPECTED_EOF,
             detail: 0,
-            done: true,
+            finished: true,
         };
     }
     let mark = bytes[0];
@@ -145,13 +145,13 @@ pub fn open_at(bytes: &[u8]) -> Opening
         return Opening {
             refusal: 0,
             detail: 0,
-            done: false,
+            finished: false,
         };
     }
     Opening {
         refusal: format::UNEXPECTED_MARK,
         detail: wide(mark),
-        done: true,
+        finished: true,
     }
 }
 
@@ -196,7 +196,7 @@ pub fn str_chars<'a>(bytes: &'a [u8]) -> Opened<'a>
     let chars = StrChars {
         bytes: rest,
         at: 0,
-        done: o.done,
+        done: o.finished,
     };
     Opened {
         refusal: o.refusal,

@@ -1,6 +1,5 @@
 -- `chars::next` meets its contract: a walk of its MIR, by hand. The borrow is opened, which gives the struct's cell and what the struct owns; `step_at` is called on the slice and the numbers; the step's number and flag are stored in the cell; and the borrow is closed at the new record.
 -- The struct is Copy: one copy of what it owns goes to the callee, field by field, and one is kept for the close.
--- Assumes nothing.
 use mathlib.Core.Path.{_≡_, refl, ap, subst}
 use Prim.Native.Nat.{ℕ, _<_, _^_}
 use mathlib.Core.List.{List, [], _∷_}

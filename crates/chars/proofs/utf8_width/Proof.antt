@@ -1,26 +1,20 @@
+-- `utf8_width` meets its contract.
 use Rattle.chars.proofs.StepLaws.{width-low, width-2, width-3, width-4, width-high}
 use Rattle.chars.proofs.utf8_width.Statement.{statement}
 use Rattle.chars.proofs.utf8_width.Tie as tie
-use Rattle.chars.proofs.utf8_width.Reads as reads
-use Rattle.chars.proofs.utf8_width.Lts as lts
 
--- src/lib.rt:57:9
 returns : tie.Need-returns
 returns c = width-low (c .before .args .lead) (c .if1 .taken)
 
--- src/lib.rt:60:9
 returns-2 : tie.Need-returns-2
 returns-2 c = width-2 (c .before .before .args .lead) (c .before .if1 .left) (c .if2 .taken)
 
--- src/lib.rt:63:9
 returns-3 : tie.Need-returns-3
 returns-3 c = width-3 (c .before .before .before .args .lead) (c .before .if2 .left) (c .if3 .taken)
 
--- src/lib.rt:66:9
 returns-4 : tie.Need-returns-4
 returns-4 c = width-4 (c .before .before .before .before .args .lead) (c .before .if3 .left) (c .if4 .taken)
 
--- src/lib.rt:53:1
 returns-5 : tie.Need-returns-5
 returns-5 c = width-high (c .before .before .before .before .args .lead) (c .if4 .left)
 
