@@ -1,12 +1,11 @@
 -- A step of the string reader, by the bytes at its place; and the mark of a string.
-use mathlib.Core.Path.{_≡_, refl, sym, ap, _∙_}
-use mathlib.Core.Bool.{Bool, true, false}
+use mathlib.Core.Path.{_≡_, refl}
+use mathlib.Core.Bool.{true, false}
 use mathlib.Core.List.{List, [], _∷_}
 use Prim.Native.Nat.{ℕ, _+_, _-_, _≤_, _<_}
 use native.Mathlib.Omega.{arith}
 use lib.ListN.{length, getD, take, drop, length-drop, drop-of-length-le}
 use borrow.Author.Tests.{eq-eqb, ne-eqb, lt-ltb, le-ltb, le-leb, lt-leb}
-use Rattle.format.specs.Answer.{Answer, ok, refused}
 use Rattle.format.specs.Utf8.{firstChar, codeOf, utf8}
 use Rattle.format.specs.Read.{startsFF}
 use Rattle.format.specs.Chars.{Step, leadWidth, finished, gave, sequenceAt, stepOn, stepAt, opened}

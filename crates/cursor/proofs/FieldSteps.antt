@@ -1,15 +1,15 @@
 -- Single fields taken at a cursor: the field's answer for the rest of the key, and the step's.
 use mathlib.Core.Path.{_≡_, refl, sym, ap, _∙_}
-use mathlib.Core.Bool.{Bool, true, false}
+use mathlib.Core.Bool.{true, false}
 use mathlib.Core.List.{List, [], _∷_}
-use Prim.Native.Nat.{ℕ, _+_, _-_, _≤_, _<_}
+use Prim.Native.Nat.{ℕ, _-_, _≤_, _<_}
 use native.Mathlib.Omega.{arith}
 use lib.Dec.{ltb, leb}
-use lib.ListN.{length, drop, length-drop, drop-of-length-le}
+use lib.ListN.{length, length-drop, drop-of-length-le}
 use borrow.Author.Tests.{lt-ltb, le-ltb}
-use Rattle.format.specs.Answer.{Answer, ok, refused}
+use Rattle.format.specs.Answer.{Answer}
 use Rattle.format.specs.Read.{Read, got, bad, getInt, getUint, getFactId, getStr, getBytes}
-use Rattle.format.specs.Fields.{Taken, takenFrom, Place, hasZero, placed, placedFrom, getI64Call, getU64Call, getStrCall, getBytesCall}
+use Rattle.format.specs.Fields.{Taken, takenFrom, Place, hasZero, placedFrom, getI64Call, getU64Call, getStrCall, getBytesCall}
 use Rattle.format.specs.Cursor.{Cursor, deep, rest, movedBy, payloadMoved, takeI64, takeU64, takeFactId, takeStr, takeBytes}
 use Rattle.scalar.specs.Answers.{getFactIdCall}
 use Rattle.scalar.proofs.Cases.{by-test}

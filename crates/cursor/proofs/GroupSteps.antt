@@ -1,12 +1,12 @@
 -- Nulls and groups taken at a cursor, by the bytes that the code looks at.
-use mathlib.Core.Path.{_≡_, refl, sym, ap, _∙_}
+use mathlib.Core.Path.{_≡_, refl, ap, _∙_}
 use mathlib.Core.Bool.{Bool, true, false, not}
 use mathlib.Core.List.{List, [], _∷_}
 use Prim.Native.Nat.{ℕ, _+_, _-_, _≤_, _<_}
 use native.Mathlib.Omega.{arith}
 use lib.ListN.{length, getD, drop, length-drop}
 use borrow.Author.Tests.{eq-eqb, ne-eqb, lt-ltb, le-ltb, not-true, not-false}
-use Rattle.format.specs.Answer.{Answer, ok, refused}
+use Rattle.format.specs.Answer.{ok, refused}
 use Rattle.format.specs.Read.{Read, got, bad, getUint, startsFF, endsHere}
 use Rattle.format.specs.Cursor.{Cursor, deep, rest, onTo, movedBy, nullAt, takeNull, recordMark, openRecord, tagAt, unionMark, openUnion, groupEnd, close, endAhead, isRecordEnd}
 use Rattle.scalar.proofs.Reading.{Took, drop-past}

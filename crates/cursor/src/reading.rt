@@ -6,7 +6,6 @@ use scalar::GotInt;
 use scalar::GotPart;
 ghost use mathlib.Core.Path.{_≡_};
 ghost use Prim.Native.Nat.{_+_, _^_, _<_};
-ghost use Rattle.format.specs.Answer.{andThen, ok};
 ghost use Rattle.format.specs.Read.{endsHere};
 ghost use Rattle.format.specs.Cursor as cursor;
 ghost use Rattle.scalar.specs.Answers.{gotInt, gotPart};

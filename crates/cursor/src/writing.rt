@@ -4,7 +4,6 @@ use crate::Moved;
 use crate::depth_of;
 use scalar::Put;
 ghost use mathlib.Core.Path.{_≡_};
-ghost use mathlib.Core.List.{_∷_};
 ghost use Rattle.format.specs.Scalar.{tagBytes};
 ghost use Rattle.format.specs.Fields.{putAt};
 ghost use Rattle.format.specs.Cursor as cursor;
