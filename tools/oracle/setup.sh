@@ -13,7 +13,7 @@ tools=$(dirname "$here")
 command -v cargo >/dev/null || { echo "$0: cargo is missing (Rust 1.85 or later is needed)" >&2; exit 2; }
 
 missing=
-for package in librust-memchr-dev librust-thiserror-dev librust-proptest-dev; do
+for package in librust-memchr-dev librust-thiserror-dev librust-proptest-dev librust-proptest+default-dev; do
     dpkg -s "$package" >/dev/null 2>&1 || missing="$missing $package"
 done
 if [ -n "$missing" ]; then

@@ -1,0 +1,2 @@
+-- The numbers of each answer, and what the exported calls promise.
+pub mod Numbers
