@@ -5,7 +5,7 @@
  * After a refusal place and depth are those given. A place past the end reads as no bytes left, a depth over 256 as 256. */
 #ifndef TUPLE_CURSORS_H
 #define TUPLE_CURSORS_H
-#include "tuple.h"
+#include "../../include/tuple.h"
 
 /* a value (0 where the step has none), and the cursor behind it */
 typedef struct { uint32_t refusal; uint64_t detail; uint64_t value; uint64_t at; uint64_t depth; } tuple_step;

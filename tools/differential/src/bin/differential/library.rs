@@ -1,4 +1,4 @@
-//! The library's calls, as tuple.h declares them; cursors.h has those of the parts `cursors` and `chars`.
+//! The library's calls, as include/tuple.h declares them; cursors.h has those of the parts `cursors` and `chars`.
 
 /// bytes written, an end, a place or a used length
 #[repr(C)]
@@ -56,6 +56,7 @@ pub struct Part {
     pub used: u64,
 }
 
+#[cfg(feature = "cursors")]
 #[repr(C)]
 #[derive(Clone, Copy)]
 pub struct Step {
@@ -66,6 +67,7 @@ pub struct Step {
     pub depth: u64,
 }
 
+#[cfg(feature = "cursors")]
 #[repr(C)]
 #[derive(Clone, Copy)]
 pub struct PartStep {
@@ -78,6 +80,7 @@ pub struct PartStep {
     pub depth: u64,
 }
 
+#[cfg(feature = "chars")]
 #[repr(C)]
 #[derive(Clone, Copy)]
 pub struct Char {
@@ -88,6 +91,16 @@ pub struct Char {
     pub at: u64,
     pub done: bool,
 }
+
+// include/tuple.h asserts the same sizes
+const _: () = assert!(
+    size_of::<Length>() == 24
+        && size_of::<Sheet>() == 40
+        && size_of::<Ends>() == 32
+        && size_of::<Order>() == 24
+        && size_of::<Number>() == 32
+        && size_of::<Part>() == 48
+);
 
 #[cfg(feature = "encode")]
 #[rustfmt::skip]

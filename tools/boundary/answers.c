@@ -1,0 +1,99 @@
+/* The layout of the answers, seen from C: every field of every struct by a value that no other field has, accepted and refused. */
+#include "../../include/tuple.h"
+#include <stdio.h>
+#include <string.h>
+
+static int wrong;
+
+static void same(const char *what, const uint64_t *found, const uint64_t *due, size_t n) {
+    for (size_t i = 0; i < n; i++) {
+        if (found[i] != due[i]) {
+            printf("%s: field %zu is %llu, not %llu\n", what, i, (unsigned long long)found[i], (unsigned long long)due[i]);
+            wrong++;
+        }
+    }
+}
+
+static void length(const char *what, tuple_length a, uint64_t refusal, uint64_t detail, uint64_t length) {
+    same(what, (uint64_t[]){a.refusal, a.detail, a.length}, (uint64_t[]){refusal, detail, length}, 3);
+}
+
+static void sheet(const char *what, tuple_sheet a, uint64_t refusal, uint64_t detail, uint64_t begun, uint64_t words, uint64_t pool) {
+    same(what, (uint64_t[]){a.refusal, a.detail, a.begun, a.words, a.pool}, (uint64_t[]){refusal, detail, begun, words, pool}, 5);
+}
+
+static void ends(const char *what, tuple_ends a, uint64_t refusal, uint64_t detail, uint64_t lower, uint64_t upper) {
+    same(what, (uint64_t[]){a.refusal, a.detail, a.lower, a.upper}, (uint64_t[]){refusal, detail, lower, upper}, 4);
+}
+
+static void order(const char *what, tuple_order a, uint64_t refusal, int32_t order) {
+    same(what, (uint64_t[]){a.refusal, a.detail, (uint64_t)(int64_t)a.order}, (uint64_t[]){refusal, 0, (uint64_t)(int64_t)order}, 3);
+}
+
+static void number(const char *what, tuple_number a, uint64_t refusal, uint64_t detail, uint64_t value, uint64_t used) {
+    same(what, (uint64_t[]){a.refusal, a.detail, a.value, a.used}, (uint64_t[]){refusal, detail, value, used}, 4);
+}
+
+static void part(const char *what, tuple_part a, uint64_t refusal, uint64_t detail, uint64_t source, uint64_t at, uint64_t len, uint64_t used) {
+    same(what, (uint64_t[]){a.refusal, a.detail, a.source, a.at, a.len, a.used}, (uint64_t[]){refusal, detail, source, at, len, used}, 6);
+}
+
+int main(void) {
+    /* tank keys: a tag and a number */
+    const uint32_t tank[] = {5, 2, 3, 1};
+    const uint64_t words[] = {5, 2, 3, 2, 1, 7};
+    const uint8_t tag[] = {0x0A, 0x00};
+    const uint8_t key[] = {0x53, 0x0A, 0x00, 0xFF, 0x00, 0x49, 0x07};
+    const uint64_t nine[] = {1, 0xFFFFFFFFFFFFFFF7};
+    const uint64_t null[] = {0};
+    uint8_t out[16] = {0}, more[16] = {0};
+    uint64_t sheet_words[8];
+
+    length("encode_key", tuple_encode_key(tank, 4, words, 6, tag, 2, out, 16), 0, 0, 7);
+    if (memcmp(out, key, 7) != 0) {
+        puts("encode_key: the key's bytes differ");
+        wrong++;
+    }
+    length("encode_key, short", tuple_encode_key(tank, 4, words, 6, tag, 2, out, 6), TUPLE_NO_ROOM, 7, 0);
+    length("encode_typed", tuple_encode_typed(tank, 4, words, 6, tag, 2, out, 16), 0, 0, 9);
+    length("encode_typed, null", tuple_encode_typed(tank, 4, null, 1, NULL, 0, out, 16), TUPLE_TYPE_MISMATCH, 5, 0);
+    sheet("decode_key", tuple_decode_key(tank, 4, key, 7, sheet_words, 8, out, 16), 0, 0, 2, 6, 2);
+    if (memcmp(sheet_words, words, sizeof words) != 0 || memcmp(out, tag, 2) != 0) {
+        puts("decode_key: the sheet differs");
+        wrong++;
+    }
+    sheet("decode_key, short", tuple_decode_key(tank, 4, key, 7, sheet_words, 5, out, 16), TUPLE_NO_ROOM, 6, 2, 0, 0);
+    sheet("decode_typed, no group", tuple_decode_typed(tank, 4, key, 7, sheet_words, 8, out, 16), TUPLE_UNEXPECTED_MARK, 0x53, 1, 0, 0);
+    sheet("check_key", tuple_check_key(tank, 4, key, 7), 0, 0, 2, 0, 0);
+    sheet("check_key, cut", tuple_check_key(tank, 4, key, 6), TUPLE_UNEXPECTED_EOF, 0, 2, 0, 0);
+    length("skip", tuple_skip(key, 7, 0, false), 0, 0, 5);
+    length("skip, null", tuple_skip((const uint8_t[]){0}, 1, 0, true), TUPLE_UNEXPECTED_TERMINATOR, 0, 0);
+    order("compare, less", tuple_compare(nine, 2, NULL, 0, words + 4, 2, NULL, 0), 0, -1);
+    order("compare, equal", tuple_compare(nine, 2, NULL, 0, nine, 2, NULL, 0), 0, 0);
+    order("compare, greater", tuple_compare(words + 4, 2, NULL, 0, nine, 2, NULL, 0), 0, 1);
+    order("compare, no value", tuple_compare(nine, 1, NULL, 0, nine, 2, NULL, 0), TUPLE_BAD_VALUE, 0);
+    length("strinc", tuple_strinc(key, 4, out, 16), 0, 0, 3);
+    length("strinc, FF", tuple_strinc((const uint8_t[]){0xFF}, 1, out, 16), TUPLE_NO_BOUND, 0, 0);
+    length("above_field", tuple_above_field(key, 5, out, 16), 0, 0, 6);
+    ends("bounds", tuple_bounds(tank, 4, key, 7, 1, out, 16, more, 16), 0, 0, 5, 6);
+    ends("bounds, short", tuple_bounds(tank, 4, key, 7, 1, out, 5, more, 5), TUPLE_NO_ROOM, 6, 0, 0);
+    memcpy(out, key, 7);
+    length("replace", tuple_replace(tank, 4, out, 16, 7, 1, nine, 2, NULL, 0), 0, 0, 7);
+    length("replace, null", tuple_replace(tank, 4, out, 16, 7, 1, null, 1, NULL, 0), TUPLE_TYPE_MISMATCH, 1, 0);
+    number("get_i64", tuple_get_i64((const uint8_t[]){0x47, 0xF6, 0}, 3), 0, 0, 0xFFFFFFFFFFFFFFF7, 2);
+    number("get_u64", tuple_get_u64((const uint8_t[]){0x49, 9, 0}, 3), 0, 0, 9, 2);
+    number("get_u64, negative", tuple_get_u64((const uint8_t[]){0x47, 0xF6}, 2), TUPLE_UNEXPECTED_MARK, 0x47, 0, 0);
+    part("get_str", tuple_get_str((const uint8_t[]){0x21, 'a', 'b', 'c', 0}, 5, more, 16), 0, 0, 1, 1, 3, 5);
+    part("get_bytes", tuple_get_bytes(key, 7, more, 16), 0, 0, 2, 0, 2, 5);
+    part("get_bytes, short", tuple_get_bytes(key, 7, more, 1), TUPLE_NO_ROOM, 2, 0, 0, 0, 0);
+    length("put_i64", tuple_put_i64(out, 16, 3, 7), 0, 0, 5);
+    length("put_u64", tuple_put_u64(out, 16, 3, 256), 0, 0, 6);
+    length("put_str", tuple_put_str(out, 16, 3, (const uint8_t *)"abc", 3), 0, 0, 8);
+    length("put_str, no text", tuple_put_str(out, 16, 3, (const uint8_t[]){0x80}, 1), TUPLE_BAD_STRING, 0, 0);
+    length("put_bytes", tuple_put_bytes(out, 16, 3, tag, 2), 0, 0, 8);
+    length("put_fact_id", tuple_put_fact_id(out, 16, 3, 1), 0, 0, 12);
+    length("put_fact_id, past", tuple_put_fact_id(out, 16, 17, 1), TUPLE_NO_ROOM, 17, 0);
+
+    puts(wrong ? "the answers' layout differs" : "the answers' layout agrees");
+    return wrong != 0;
+}
