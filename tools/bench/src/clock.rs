@@ -18,27 +18,34 @@ pub fn nanoseconds() -> f64 {
     time.seconds as f64 * 1e9 + time.nanoseconds as f64
 }
 
-/// The medians of both, in nanoseconds a turn: batches of each by turns, `list` turns of the inputs at a time.
-pub fn medians(mut ours: impl FnMut(usize), mut rust: impl FnMut(usize), inputs: usize) -> (f64, f64) {
-    const BATCH: f64 = 2e6;
-    const BATCHES: usize = 41;
-    let turns = |f: &mut dyn FnMut(usize)| {
-        let mut n = inputs;
-        loop {
-            let took = batch(f, n, inputs);
-            if took > BATCH / 4.0 {
-                return ((n as f64 * BATCH / took) as usize / inputs).max(1) * inputs;
-            }
-            n *= 2;
-        }
-    };
-    let (m, n) = (turns(&mut ours), turns(&mut rust));
-    let (mut a, mut b) = (Vec::new(), Vec::new());
+const BATCH: f64 = 2e6;
+const BATCHES: usize = 41;
+
+/// The median of each, in nanoseconds a turn: batches of all of them by turns, each over the inputs again and again.
+pub fn medians<const N: usize>(mut list: [&mut dyn FnMut(usize); N], inputs: usize) -> [f64; N] {
+    let turns: Vec<usize> = list.iter_mut().map(|f| turns(*f, inputs)).collect();
+    let mut times = vec![Vec::new(); N];
     for _ in 0..BATCHES {
-        a.push(batch(&mut ours, m, inputs) / m as f64);
-        b.push(batch(&mut rust, n, inputs) / n as f64);
+        for (i, f) in list.iter_mut().enumerate() {
+            times[i].push(batch(*f, turns[i], inputs) / turns[i] as f64);
+        }
     }
-    (median(a), median(b))
+    std::array::from_fn(|i| {
+        times[i].sort_by(f64::total_cmp);
+        times[i][BATCHES / 2]
+    })
+}
+
+/// How many turns a batch has: a multiple of the inputs.
+fn turns(f: &mut dyn FnMut(usize), inputs: usize) -> usize {
+    let mut n = inputs;
+    loop {
+        let took = batch(f, n, inputs);
+        if took > BATCH / 4.0 {
+            return ((n as f64 * BATCH / took) as usize / inputs).max(1) * inputs;
+        }
+        n *= 2;
+    }
 }
 
 fn batch(f: &mut dyn FnMut(usize), n: usize, inputs: usize) -> f64 {
@@ -52,9 +59,4 @@ fn batch(f: &mut dyn FnMut(usize), n: usize, inputs: usize) -> f64 {
         }
     }
     nanoseconds() - start
-}
-
-fn median(mut list: Vec<f64>) -> f64 {
-    list.sort_by(f64::total_cmp);
-    list[list.len() / 2]
 }
