@@ -1,5 +1,5 @@
 -- From what a call of the library promises, and how its answer became numbers, to what the exported call promises.
-use mathlib.Core.Path.{_≡_, refl, sym, ap, _∙_}
+use mathlib.Core.Path.{_≡_, refl, ap, _∙_}
 use mathlib.Core.List.{List}
 use Prim.Native.Nat.{ℕ}
 use Rattle.format.specs.Answer.{Answer}

@@ -2,10 +2,12 @@
 -- detail and, but for the values begun, 0 in every other field.
 use mathlib.Core.Path.{_≡_}
 use mathlib.Core.List.{List, []}
-use Prim.Native.Nat.{ℕ, Ordering, Ordering·lt, Ordering·eq, Ordering·gt}
+use mathlib.Core.Bool.{Bool}
+use Prim.Native.Nat.{ℕ, _<_, Ordering, Ordering·lt, Ordering·eq, Ordering·gt}
 use lib.IntN.{ℤ, pos, negsuc}
 use Rattle.format.specs.Answer.{Answer, ok, refused}
 use Rattle.format.specs.Calls as calls
+use Rattle.format.specs.Fields as fields
 use Rattle.format.specs.Fields.{Taken, Place, inKey, inScratch, Payload}
 use Rattle.decode.specs.declared.Decoded.{Decoded}
 use Rattle.decode.specs.declared.CheckedKey.{CheckedKey}
@@ -103,3 +105,33 @@ decodedNumbers x = sheetOf (decode.decodedOf x [] [] .answer) (decode.decodedOf 
 
 abbrev pub checkedNumbers : CheckedKey → Sheet
 checkedNumbers x = checkedOf (decode.checkedOf x .answer) (decode.checkedOf x .begun)
+
+-- ---- refusal 0 says that a call was accepted
+
+-- a refusal has a number above 0
+abbrev pub Numbered : {A : Type 0} → Answer A → Type 0
+Numbered (ok a) = Unit
+Numbered (refused n d) = 0 < n
+
+-- in every call, whatever its arguments (proofs/Refusals)
+pub record RefusalsNumbered : Type 0 where
+  pub encode-typed : (ty words pool out : List ℕ) → Numbered (calls.encodeTypedCall ty words pool out .answer)
+  pub encode-key : (ty words pool out : List ℕ) → Numbered (calls.encodeKeyCall ty words pool out .answer)
+  pub decode-typed : (ty bytes words pool : List ℕ) → Numbered (calls.decodeTypedCall ty bytes words pool .answer)
+  pub decode-key : (ty bytes words pool : List ℕ) → Numbered (calls.decodeKeyCall ty bytes words pool .answer)
+  pub check-key : (ty bytes : List ℕ) → Numbered (calls.checkKeyCall ty bytes .answer)
+  pub skip : (bytes : List ℕ) (start : ℕ) (escape : Bool) → Numbered (calls.skipCall bytes start escape)
+  pub compare : (a p b q : List ℕ) → Numbered (calls.compareCall a p b q)
+  pub strinc : (prefix out : List ℕ) → Numbered (calls.strincCall prefix out .answer)
+  pub above-field : (key out : List ℕ) → Numbered (calls.aboveFieldCall key out .answer)
+  pub bounds : (ty key : List ℕ) (k : ℕ) (lower upper : List ℕ) → Numbered (calls.boundsCall ty key k lower upper .answer)
+  pub replace : (ty buffer : List ℕ) (used field : ℕ) (words pool : List ℕ) → Numbered (calls.replaceCall ty buffer used field words pool .answer)
+  pub get-i64 : (bytes : List ℕ) → Numbered (fields.getI64Call bytes)
+  pub get-u64 : (bytes : List ℕ) → Numbered (fields.getU64Call bytes)
+  pub get-str : (bytes scratch : List ℕ) → Numbered (fields.getStrCall bytes scratch .answer)
+  pub get-bytes : (bytes scratch : List ℕ) → Numbered (fields.getBytesCall bytes scratch .answer)
+  pub put-i64 : (out : List ℕ) (at word : ℕ) → Numbered (fields.putI64Call out at word .answer)
+  pub put-u64 : (out : List ℕ) (at number : ℕ) → Numbered (fields.putU64Call out at number .answer)
+  pub put-str : (out : List ℕ) (at : ℕ) (text : List ℕ) → Numbered (fields.putStrCall out at text .answer)
+  pub put-bytes : (out : List ℕ) (at : ℕ) (payload : List ℕ) → Numbered (fields.putBytesCall out at payload .answer)
+  pub put-fact-id : (out : List ℕ) (at raw : ℕ) → Numbered (fields.putFactIdCall out at raw .answer)
