@@ -212,6 +212,14 @@ key-is ty bytes = go (typeOf ty)
     go none = refl
 
 -- a key that keeps no value
+pub c-type : (ty bytes : List ℕ) (q : Bool) → q ≡ isSome (typeOf ty) → q ≡ false → checkedOf (CheckedKey.Refused 15 0 0) ≡ checkKeyCall ty bytes
+unfolding checkKeyCall
+c-type ty bytes q e h = go (typeOf ty) (sym e ∙ h)
+  where
+    go : (o : Option Ty) → isSome o ≡ false → checkedOf (CheckedKey.Refused 15 0 0) ≡ checkedBy (decodedBy o (λ t. format.decodeKey t bytes))
+    go (some t) k = let z : _≡_ {A = ℕ} 0 1 = cc in absurd (omega arith)
+    go none k = refl
+
 module _ (ty bytes : List ℕ) (m : Decoded) (e : m ≡ measuredBy (decodedTop true ty bytes)) where
   pub c-bad : (n d k : ℕ) → m ≡ Decoded.Refused n d k → checkedOf (CheckedKey.Refused n d k) ≡ checkKeyCall ty bytes
   unfolding checkKeyCall

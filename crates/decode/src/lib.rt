@@ -1,7 +1,8 @@
 // Decoding whole keys into lent sheets: first measured over no room at all, then filled, so that a refused call writes nothing.
 use read::Walked;
 ghost use mathlib.Core.Path.{_≡_};
-ghost use mathlib.Core.Bool.{Bool};
+ghost use mathlib.Core.Bool.{Bool, true};
+ghost use Rattle.format.specs.TypeSheet.{isSome, typeOf};
 ghost use Rattle.format.specs.Calls.{decodeTypedCall, decodeKeyCall, checkKeyCall};
 ghost use Rattle.read.specs.Walk.{TypeAt};
 ghost use Rattle.decode.specs.Answers.{decodedOf, checkedOf, TopWalk, measuredBy, fillCall, decodedTop};
@@ -44,17 +45,17 @@ fn walk(ty: &[u32], bytes: &[u8], bare: bool, words: &mut [u64], pool: &mut [u8]
     }
 }
 
-// The refusals before room is asked for, or how many words and pool bytes the value takes. It is lent empty parts, so it writes nothing.
-fn measure(ty: &[u32], bytes: &[u8], bare: bool, words: &mut [u64], pool: &mut [u8]) -> Decoded
+// The refusals under an admitted type, or how many words and pool bytes the value takes. It is lent empty parts, so it writes nothing.
+fn measure_admitted(
+    ty: &[u32],
+    bytes: &[u8],
+    bare: bool,
+    words: &mut [u64],
+    pool: &mut [u8],
+) -> Decoded
+    requires { ⌜ isSome (typeOf (now ty)) ≡ true ⌝ }
     ensures { λ r. ⌜ r ≡ measuredBy (decodedTop bare (now (ty .entry)) (now (bytes .entry))) ⌝ }
 {
-    if !sheet::admit_type(ty) {
-        return Decoded::Refused {
-            no: format::BAD_TYPE,
-            detail: 0,
-            begun: 0,
-        };
-    }
     match walk(ty, bytes, bare, words, pool) {
         Walked::Bad { no, detail, begun } => Decoded::Refused { no, detail, begun },
         Walked::Good {
@@ -78,6 +79,20 @@ fn measure(ty: &[u32], bytes: &[u8], bare: bool, words: &mut [u64], pool: &mut [
             }
         }
     }
+}
+
+// The same under any sheet.
+fn measure(ty: &[u32], bytes: &[u8], bare: bool, words: &mut [u64], pool: &mut [u8]) -> Decoded
+    ensures { λ r. ⌜ r ≡ measuredBy (decodedTop bare (now (ty .entry)) (now (bytes .entry))) ⌝ }
+{
+    if !sheet::admit_type(ty) {
+        return Decoded::Refused {
+            no: format::BAD_TYPE,
+            detail: 0,
+            begun: 0,
+        };
+    }
+    measure_admitted(ty, bytes, bare, words, pool)
 }
 
 // Measures, asks for room, and fills.
@@ -129,13 +144,14 @@ pub fn decode_key(ty: &[u32], bytes: &[u8], words: &mut [u64], pool: &mut [u8]) 
     fill(ty, bytes, true, words, pool)
 }
 
-// The same, keeping no value, so never NoRoom.
-pub fn check_key(ty: &[u32], bytes: &[u8]) -> CheckedKey
+// The same, keeping no value, so never NoRoom; of a type that is admitted, so that many keys of one type admit it once.
+pub fn check_admitted(ty: &[u32], bytes: &[u8]) -> CheckedKey
+    requires { ⌜ isSome (typeOf (now ty)) ≡ true ⌝ }
     ensures { λ r. ⌜ checkedOf r ≡ checkKeyCall (now (ty .entry)) (now (bytes .entry)) ⌝ }
 {
     let mut words = [0u64; 1];
     let mut pool = [0u8; 1];
-    match measure(ty, bytes, true, &mut words[..0], &mut pool[..0]) {
+    match measure_admitted(ty, bytes, true, &mut words[..0], &mut pool[..0]) {
         Decoded::Refused { no, detail, begun } => CheckedKey::Refused { no, detail, begun },
         Decoded::Done {
             words: _,
@@ -143,4 +159,17 @@ pub fn check_key(ty: &[u32], bytes: &[u8]) -> CheckedKey
             begun,
         } => CheckedKey::Accepted { begun },
     }
+}
+
+pub fn check_key(ty: &[u32], bytes: &[u8]) -> CheckedKey
+    ensures { λ r. ⌜ checkedOf r ≡ checkKeyCall (now (ty .entry)) (now (bytes .entry)) ⌝ }
+{
+    if !sheet::admit_type(ty) {
+        return CheckedKey::Refused {
+            no: format::BAD_TYPE,
+            detail: 0,
+            begun: 0,
+        };
+    }
+    check_admitted(ty, bytes)
 }

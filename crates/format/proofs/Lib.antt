@@ -1,6 +1,7 @@
 -- The laws about the definitions, and the notions that they are stated with. None of it is part of what the definitions say.
 --
 -- Specimens    the starred specimens, as one theorem
+-- KeylistExample   keylist's example
 --
 -- Notions:
 -- Bytes        lists of numbers that are bytes
@@ -55,6 +56,7 @@
 --
 -- Demand3      demand 3 of the request, in full
 pub mod Specimens
+pub mod KeylistExample
 pub mod Bytes
 pub mod Begun
 pub mod Sound

@@ -19,3 +19,4 @@ pub mod Fields
 pub mod Cursor
 pub mod Chars
 pub mod Demand3
+pub mod Keylist

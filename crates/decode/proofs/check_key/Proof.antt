@@ -1,46 +1,22 @@
 -- `check_key` meets its contract.
-use borrow.Author.Needs.{needs}
+use mathlib.Core.Path.{sym, _∙_}
+use borrow.Author.Tests.{not-true, not-false}
 use Rattle.decode.proofs.TopLaws as laws
+use borrow.Author.Needs.{needs}
 use Rattle.decode.proofs.check_key.Statement.{statement}
 use Rattle.decode.proofs.check_key.Tie as tie
 
-array-borrow-prefix-words : tie.Need-array-borrow-prefix-words
-array-borrow-prefix-words c = search needs
-
-slice-aggregate-measure : tie.Need-slice-aggregate-measure
-slice-aggregate-measure c = search needs
-
-array-borrow-prefix-pool : tie.Need-array-borrow-prefix-pool
-array-borrow-prefix-pool c = search needs
-
-slice-aggregate-measure-2 : tie.Need-slice-aggregate-measure-2
-slice-aggregate-measure-2 c = search needs
-
-measure-requires : tie.Need-measure-requires
-measure-requires c κs = search needs
-
-enum-known-no : tie.Need-enum-known-no
-enum-known-no c = search needs
-
-enum-known-begun : tie.Need-enum-known-begun
-enum-known-begun c = search needs
+admit-type-requires : tie.Need-admit-type-requires
+admit-type-requires c κs = search needs
 
 returns : tie.Need-returns
-returns c = let a = c .before .before .before .before .before .before .before .before .before .before .args in laws.c-bad (a .ty .now) (a .bytes .now) (c .before .before .before .before .before .measure .result) (c .before .before .before .before .before .measure .ensures) _ _ _ (c .before .no .given .1)
+returns c = let a = c .before .before .before .before .args in laws.c-type (a .ty .now) (a .bytes .now) (c .before .admit-type .result) (c .before .admit-type .ensures) (not-true _ (c .if1 .taken))
+
+check-admitted-requires : tie.Need-check-admitted-requires
+check-admitted-requires c κs = sym (c .before .admit-type .ensures) ∙ not-false _ (c .if1 .left)
 
 returns-2 : tie.Need-returns-2
-returns-2 c = let a = c .before .before .before .before .before .before .before .before .before .before .args in laws.c-good (a .ty .now) (a .bytes .now) (c .before .before .before .before .before .measure .result) (c .before .before .before .before .before .measure .ensures) _ _ _ (c .before .begun .given .1)
+returns-2 c = search needs
 
 pub check-key-spec : {M : Type 1} → statement M
-check-key-spec =
-    tie.close
-    (tie.spec
-    array-borrow-prefix-words
-    slice-aggregate-measure
-    array-borrow-prefix-pool
-    slice-aggregate-measure-2
-    measure-requires
-    enum-known-no
-    enum-known-begun
-    returns
-    returns-2)
+check-key-spec = tie.close (tie.spec admit-type-requires returns check-admitted-requires returns-2)

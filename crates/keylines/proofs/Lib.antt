@@ -1,0 +1,7 @@
+-- Laws of the parser and the printer, one for each way out of a function.
+pub mod TextLaws
+pub mod PairLaws
+pub mod WordLaws
+pub mod DecimalLaws
+pub mod RowLaws
+pub mod AnswerLaws

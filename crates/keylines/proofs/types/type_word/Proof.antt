@@ -1,0 +1,81 @@
+-- `type_word` meets its contract.
+use borrow.Author.Needs.{needs}
+use Prim.Native.Nat.{_-_}
+use native.Mathlib.Omega.{arith}
+use lib.ListN.{length}
+use Rattle.keylines.proofs.WordLaws as laws
+use Rattle.keylines.proofs.types.type_word.Statement.{statement}
+use Rattle.keylines.proofs.types.type_word.Tie as tie
+
+abbrev Inv-loop : tie.InvT-loop
+Inv-loop text n₀ i₀ n i = laws.DigitsRead text n i
+
+abbrev μ-loop : tie.MeasureT-loop
+μ-loop text n₀ i₀ n i = length text - i
+
+returns : tie.Need-returns Inv-loop μ-loop
+returns c = laws.word-empty (c .before .before .args .text .now) (c .if1 .taken)
+
+returns-2 : tie.Need-returns-2 Inv-loop μ-loop
+returns-2 c = laws.word-long (c .before .before .before .args .text .now) (c .if2 .taken)
+
+loop-holds : tie.Need-loop-holds Inv-loop μ-loop
+loop-holds c = laws.word-start (c .before .before .before .args .text .now) (c .before .if1 .left) (c .if2 .left)
+
+shared-slice-read-b : tie.Need-shared-slice-read-b Inv-loop μ-loop
+shared-slice-read-b c = omega arith
+
+returns-3 : tie.Need-returns-3 Inv-loop μ-loop
+returns-3 c = laws.word-low (c .before .before .before .before .before .before .before .args .text .now) (c .before .before .before .loop .n) (c .before .before .before .loop .i) (c .before .before .before .loop .inv) (c .before .before .loop-test .taken) (c .if3 .taken)
+
+returns-4 : tie.Need-returns-4 Inv-loop μ-loop
+returns-4 c = laws.word-high (c .before .before .before .before .before .before .before .before .args .text .now) (c .before .before .before .before .loop .n) (c .before .before .before .before .loop .i) (c .before .before .before .before .loop .inv) (c .before .before .before .loop-test .taken) (c .if4 .taken)
+
+mul-n : tie.Need-mul-n Inv-loop μ-loop
+mul-n c = omega arith
+
+wide-requires : tie.Need-wide-requires Inv-loop μ-loop
+wide-requires c κs = search needs
+
+add-n : tie.Need-add-n Inv-loop μ-loop
+add-n c = omega (arith, c .wide .ensures, c .before .before .before .shared-slice-known2 .given (c .before .before .before .before .before .loop .i))
+
+returns-5 : tie.Need-returns-5 Inv-loop μ-loop
+returns-5 c = laws.word-large (c .before .before .before .before .before .before .before .before .before .before .args .text .now) (c .before .before .before .before .before .before .loop .n) (c .before .before .before .before .before .before .loop .i) (c .before .before .before .before .before .before .loop .inv) (c .before .before .before .before .before .loop-test .taken) (c .before .before .before .if3 .left) (c .before .before .if4 .left) (c .before .wide .result) (c .before .wide .ensures) (c .if5 .taken)
+
+add-i : tie.Need-add-i Inv-loop μ-loop
+add-i c = omega arith
+
+loop-less : tie.Need-loop-less Inv-loop μ-loop
+loop-less c = omega arith
+
+loop-again : tie.Need-loop-again Inv-loop μ-loop
+loop-again c = laws.word-next (c .before .before .before .before .before .before .before .before .before .before .args .text .now) (c .before .before .before .before .before .before .loop .n) (c .before .before .before .before .before .before .loop .i) (c .before .before .before .before .before .before .loop .inv) (c .before .before .before .before .before .loop-test .taken) (c .before .before .before .if3 .left) (c .before .before .if4 .left) (c .before .wide .result) (c .before .wide .ensures) (c .if5 .left)
+
+cast-t13 : tie.Need-cast-t13 Inv-loop μ-loop
+cast-t13 c = omega arith
+
+returns-6 : tie.Need-returns-6 Inv-loop μ-loop
+returns-6 c = laws.word-end (c .before .before .before .before .before .args .text .now) (c .before .loop .n) (c .before .loop .i) (c .before .loop .inv) (c .loop-test .left)
+
+pub type-word-spec : {M : Type 1} → statement M
+type-word-spec =
+    tie.close
+    (tie.spec
+    Inv-loop
+    μ-loop
+    returns
+    returns-2
+    loop-holds
+    shared-slice-read-b
+    returns-3
+    returns-4
+    mul-n
+    wide-requires
+    add-n
+    returns-5
+    add-i
+    loop-less
+    loop-again
+    cast-t13
+    returns-6)

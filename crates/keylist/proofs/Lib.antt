@@ -1,0 +1,2 @@
+-- Laws of the program's rooms.
+pub mod Rooms
