@@ -1,0 +1,326 @@
+//! The library's calls as include/tuple.h declares them, each on slices. All of the crate's `unsafe` is here.
+
+use crate::refusal::Refusal;
+use crate::sheet::ValueSheet;
+use std::mem::{offset_of, size_of};
+
+#[cfg(not(all(target_arch = "x86_64", target_pointer_width = "64")))]
+compile_error!("libtuple.a is for x86-64");
+
+/// bytes written, an end, a place or a used length
+#[repr(C)]
+pub(crate) struct Length {
+    refusal: u32,
+    detail: u64,
+    pub(crate) length: u64,
+}
+
+/// the values begun, also where refused; the words and pool bytes written
+#[repr(C)]
+pub(crate) struct Sheet {
+    refusal: u32,
+    detail: u64,
+    pub(crate) begun: u64,
+    pub(crate) words: u64,
+    pub(crate) pool: u64,
+}
+
+/// the lengths of a lower and an upper end
+#[repr(C)]
+pub(crate) struct Ends {
+    refusal: u32,
+    detail: u64,
+    pub(crate) lower: u64,
+    pub(crate) upper: u64,
+}
+
+/// -1 less, 0 equal, 1 greater
+#[repr(C)]
+pub(crate) struct Order {
+    refusal: u32,
+    detail: u64,
+    pub(crate) order: i32,
+}
+
+/// an integer and how many bytes it took
+#[repr(C)]
+pub(crate) struct Number {
+    refusal: u32,
+    detail: u64,
+    pub(crate) value: u64,
+    pub(crate) used: u64,
+}
+
+/// where a payload is (source 1: the bytes from `at` on; 2: the scratch buffer's beginning), its length and how many bytes its field took
+#[repr(C)]
+pub(crate) struct Part {
+    refusal: u32,
+    detail: u64,
+    pub(crate) source: u32,
+    pub(crate) at: u64,
+    pub(crate) len: u64,
+    pub(crate) used: u64,
+}
+
+// The same sizes and places as in include/tuple.h; a difference does not compile.
+const _: () = {
+    assert!(size_of::<Length>() == 24 && offset_of!(Length, detail) == 8 && offset_of!(Length, length) == 16);
+    assert!(size_of::<Sheet>() == 40 && offset_of!(Sheet, detail) == 8 && offset_of!(Sheet, begun) == 16);
+    assert!(offset_of!(Sheet, words) == 24 && offset_of!(Sheet, pool) == 32);
+    assert!(size_of::<Ends>() == 32 && offset_of!(Ends, detail) == 8 && offset_of!(Ends, lower) == 16 && offset_of!(Ends, upper) == 24);
+    assert!(size_of::<Order>() == 24 && offset_of!(Order, detail) == 8 && offset_of!(Order, order) == 16);
+    assert!(size_of::<Number>() == 32 && offset_of!(Number, detail) == 8);
+    assert!(offset_of!(Number, value) == 16 && offset_of!(Number, used) == 24);
+    assert!(size_of::<Part>() == 48 && offset_of!(Part, detail) == 8 && offset_of!(Part, source) == 16);
+    assert!(offset_of!(Part, at) == 24 && offset_of!(Part, len) == 32 && offset_of!(Part, used) == 40);
+    assert!(size_of::<usize>() == 8 && size_of::<bool>() == 1);
+};
+
+/// An answer: every one begins with a refusal and its detail, both 0 where the call was accepted.
+pub(crate) trait Answer: Sized {
+    /// refusal and detail
+    fn said(&self) -> (u32, u64);
+
+    /// The answer of an accepted call, or its refusal.
+    fn accepted(self) -> Result<Self, Refusal> {
+        match self.said() {
+            (0, _) => Ok(self),
+            (number, detail) => Err(Refusal::answered(number, detail)),
+        }
+    }
+}
+
+macro_rules! answers {
+    ($($answer:ty),*) => {$(
+        impl Answer for $answer {
+            fn said(&self) -> (u32, u64) {
+                (self.refusal, self.detail)
+            }
+        }
+    )*};
+}
+
+answers!(Length, Sheet, Ends, Order, Number, Part);
+
+#[rustfmt::skip]
+unsafe extern "C" {
+    fn tuple_encode_typed(ty: *const u32, ty_len: usize, words: *const u64, words_len: usize, pool: *const u8, pool_len: usize, out: *mut u8, out_len: usize) -> Length;
+    fn tuple_encode_key(ty: *const u32, ty_len: usize, words: *const u64, words_len: usize, pool: *const u8, pool_len: usize, out: *mut u8, out_len: usize) -> Length;
+    fn tuple_decode_typed(ty: *const u32, ty_len: usize, bytes: *const u8, bytes_len: usize, words: *mut u64, words_len: usize, pool: *mut u8, pool_len: usize) -> Sheet;
+    fn tuple_decode_key(ty: *const u32, ty_len: usize, bytes: *const u8, bytes_len: usize, words: *mut u64, words_len: usize, pool: *mut u8, pool_len: usize) -> Sheet;
+    fn tuple_check_key(ty: *const u32, ty_len: usize, bytes: *const u8, bytes_len: usize) -> Sheet;
+    fn tuple_skip(bytes: *const u8, bytes_len: usize, start: usize, require_escape_null: bool) -> Length;
+    fn tuple_compare(words_a: *const u64, words_a_len: usize, pool_a: *const u8, pool_a_len: usize, words_b: *const u64, words_b_len: usize, pool_b: *const u8, pool_b_len: usize) -> Order;
+    fn tuple_strinc(prefix: *const u8, prefix_len: usize, out: *mut u8, out_len: usize) -> Length;
+    fn tuple_above_field(key: *const u8, key_len: usize, out: *mut u8, out_len: usize) -> Length;
+    fn tuple_bounds(ty: *const u32, ty_len: usize, key: *const u8, key_len: usize, k: usize, lower: *mut u8, lower_len: usize, upper: *mut u8, upper_len: usize) -> Ends;
+    fn tuple_replace(ty: *const u32, ty_len: usize, buffer: *mut u8, buffer_len: usize, used: usize, field: usize, words: *const u64, words_len: usize, pool: *const u8, pool_len: usize) -> Length;
+    fn tuple_get_i64(bytes: *const u8, bytes_len: usize) -> Number;
+    fn tuple_get_u64(bytes: *const u8, bytes_len: usize) -> Number;
+    fn tuple_get_str(bytes: *const u8, bytes_len: usize, scratch: *mut u8, scratch_len: usize) -> Part;
+    fn tuple_get_bytes(bytes: *const u8, bytes_len: usize, scratch: *mut u8, scratch_len: usize) -> Part;
+    fn tuple_put_i64(out: *mut u8, out_len: usize, at: usize, word: u64) -> Length;
+    fn tuple_put_u64(out: *mut u8, out_len: usize, at: usize, number: u64) -> Length;
+    fn tuple_put_str(out: *mut u8, out_len: usize, at: usize, text: *const u8, text_len: usize) -> Length;
+    fn tuple_put_bytes(out: *mut u8, out_len: usize, at: usize, payload: *const u8, payload_len: usize) -> Length;
+    fn tuple_put_fact_id(out: *mut u8, out_len: usize, at: usize, raw: u64) -> Length;
+}
+
+// What makes each call below safe is the same: the header asks for nothing but that a pointer and a length belong to one slice, that a slice which is
+// written overlaps no other of its call, and that an empty one may have any pointer; a call is total, reads and writes within the slices lent to it alone,
+// and keeps nothing. A Rust slice gives the first, `&mut` the second.
+
+pub(crate) fn encode_typed(ty: &[u32], value: &ValueSheet, out: &mut [u8]) -> Length {
+    let (words, pool) = (value.words(), value.pool());
+    // SAFETY: each pointer and length are of one slice that lives through the call; `out`, which is written, is borrowed alone.
+    unsafe {
+        tuple_encode_typed(ty.as_ptr(), ty.len(), words.as_ptr(), words.len(), pool.as_ptr(), pool.len(), out.as_mut_ptr(), out.len())
+    }
+}
+
+pub(crate) fn encode_key(ty: &[u32], value: &ValueSheet, out: &mut [u8]) -> Length {
+    let (words, pool) = (value.words(), value.pool());
+    // SAFETY: each pointer and length are of one slice that lives through the call; `out`, which is written, is borrowed alone.
+    unsafe { tuple_encode_key(ty.as_ptr(), ty.len(), words.as_ptr(), words.len(), pool.as_ptr(), pool.len(), out.as_mut_ptr(), out.len()) }
+}
+
+pub(crate) fn decode_typed(ty: &[u32], bytes: &[u8], words: &mut [u64], pool: &mut [u8]) -> Sheet {
+    // SAFETY: each pointer and length are of one slice that lives through the call; `words` and `pool`, which are written, are borrowed alone.
+    unsafe {
+        tuple_decode_typed(
+            ty.as_ptr(),
+            ty.len(),
+            bytes.as_ptr(),
+            bytes.len(),
+            words.as_mut_ptr(),
+            words.len(),
+            pool.as_mut_ptr(),
+            pool.len(),
+        )
+    }
+}
+
+pub(crate) fn decode_key(ty: &[u32], bytes: &[u8], words: &mut [u64], pool: &mut [u8]) -> Sheet {
+    // SAFETY: each pointer and length are of one slice that lives through the call; `words` and `pool`, which are written, are borrowed alone.
+    unsafe {
+        tuple_decode_key(ty.as_ptr(), ty.len(), bytes.as_ptr(), bytes.len(), words.as_mut_ptr(), words.len(), pool.as_mut_ptr(), pool.len())
+    }
+}
+
+pub(crate) fn check_key(ty: &[u32], bytes: &[u8]) -> Sheet {
+    // SAFETY: each pointer and length are of one slice that lives through the call; nothing is written.
+    unsafe { tuple_check_key(ty.as_ptr(), ty.len(), bytes.as_ptr(), bytes.len()) }
+}
+
+pub(crate) fn skip(bytes: &[u8], start: usize, require_escape_null: bool) -> Length {
+    // SAFETY: the pointer and length are of one slice that lives through the call; nothing is written; any start is answered.
+    unsafe { tuple_skip(bytes.as_ptr(), bytes.len(), start, require_escape_null) }
+}
+
+pub(crate) fn compare(a: &ValueSheet, b: &ValueSheet) -> Order {
+    let (words_a, pool_a, words_b, pool_b) = (a.words(), a.pool(), b.words(), b.pool());
+    // SAFETY: each pointer and length are of one slice that lives through the call; nothing is written, so the two sheets may be one.
+    unsafe {
+        tuple_compare(
+            words_a.as_ptr(),
+            words_a.len(),
+            pool_a.as_ptr(),
+            pool_a.len(),
+            words_b.as_ptr(),
+            words_b.len(),
+            pool_b.as_ptr(),
+            pool_b.len(),
+        )
+    }
+}
+
+pub(crate) fn strinc(prefix: &[u8], out: &mut [u8]) -> Length {
+    // SAFETY: each pointer and length are of one slice that lives through the call; `out`, which is written, is borrowed alone.
+    unsafe { tuple_strinc(prefix.as_ptr(), prefix.len(), out.as_mut_ptr(), out.len()) }
+}
+
+pub(crate) fn above_field(key: &[u8], out: &mut [u8]) -> Length {
+    // SAFETY: each pointer and length are of one slice that lives through the call; `out`, which is written, is borrowed alone.
+    unsafe { tuple_above_field(key.as_ptr(), key.len(), out.as_mut_ptr(), out.len()) }
+}
+
+pub(crate) fn bounds(ty: &[u32], key: &[u8], k: usize, lower: &mut [u8], upper: &mut [u8]) -> Ends {
+    // SAFETY: each pointer and length are of one slice that lives through the call; `lower` and `upper`, which are written, are borrowed alone;
+    // any k is answered.
+    unsafe {
+        tuple_bounds(ty.as_ptr(), ty.len(), key.as_ptr(), key.len(), k, lower.as_mut_ptr(), lower.len(), upper.as_mut_ptr(), upper.len())
+    }
+}
+
+pub(crate) fn replace(ty: &[u32], buffer: &mut [u8], used: usize, field: usize, value: &ValueSheet) -> Length {
+    let (words, pool) = (value.words(), value.pool());
+    // SAFETY: each pointer and length are of one slice that lives through the call; `buffer`, which is written, is borrowed alone; any used length
+    // and field number are answered.
+    unsafe {
+        tuple_replace(
+            ty.as_ptr(),
+            ty.len(),
+            buffer.as_mut_ptr(),
+            buffer.len(),
+            used,
+            field,
+            words.as_ptr(),
+            words.len(),
+            pool.as_ptr(),
+            pool.len(),
+        )
+    }
+}
+
+pub(crate) fn get_i64(bytes: &[u8]) -> Number {
+    // SAFETY: the pointer and length are of one slice that lives through the call; nothing is written.
+    unsafe { tuple_get_i64(bytes.as_ptr(), bytes.len()) }
+}
+
+pub(crate) fn get_u64(bytes: &[u8]) -> Number {
+    // SAFETY: the pointer and length are of one slice that lives through the call; nothing is written.
+    unsafe { tuple_get_u64(bytes.as_ptr(), bytes.len()) }
+}
+
+pub(crate) fn get_str(bytes: &[u8], scratch: &mut [u8]) -> Part {
+    // SAFETY: each pointer and length are of one slice that lives through the call; `scratch`, which is written, is borrowed alone.
+    unsafe { tuple_get_str(bytes.as_ptr(), bytes.len(), scratch.as_mut_ptr(), scratch.len()) }
+}
+
+pub(crate) fn get_bytes(bytes: &[u8], scratch: &mut [u8]) -> Part {
+    // SAFETY: each pointer and length are of one slice that lives through the call; `scratch`, which is written, is borrowed alone.
+    unsafe { tuple_get_bytes(bytes.as_ptr(), bytes.len(), scratch.as_mut_ptr(), scratch.len()) }
+}
+
+pub(crate) fn put_i64(out: &mut [u8], at: usize, word: u64) -> Length {
+    // SAFETY: the pointer and length are of one slice that lives through the call and is borrowed alone; any place is answered.
+    unsafe { tuple_put_i64(out.as_mut_ptr(), out.len(), at, word) }
+}
+
+pub(crate) fn put_u64(out: &mut [u8], at: usize, number: u64) -> Length {
+    // SAFETY: the pointer and length are of one slice that lives through the call and is borrowed alone; any place is answered.
+    unsafe { tuple_put_u64(out.as_mut_ptr(), out.len(), at, number) }
+}
+
+pub(crate) fn put_str(out: &mut [u8], at: usize, text: &[u8]) -> Length {
+    // SAFETY: each pointer and length are of one slice that lives through the call; `out`, which is written, is borrowed alone; any place is answered.
+    unsafe { tuple_put_str(out.as_mut_ptr(), out.len(), at, text.as_ptr(), text.len()) }
+}
+
+pub(crate) fn put_bytes(out: &mut [u8], at: usize, payload: &[u8]) -> Length {
+    // SAFETY: each pointer and length are of one slice that lives through the call; `out`, which is written, is borrowed alone; any place is answered.
+    unsafe { tuple_put_bytes(out.as_mut_ptr(), out.len(), at, payload.as_ptr(), payload.len()) }
+}
+
+pub(crate) fn put_fact_id(out: &mut [u8], at: usize, raw: u64) -> Length {
+    // SAFETY: the pointer and length are of one slice that lives through the call and is borrowed alone; any place is answered.
+    unsafe { tuple_put_fact_id(out.as_mut_ptr(), out.len(), at, raw) }
+}
+
+/// The rows of the table of refusals that no `Type`, `Value` or growing buffer can bring about: sheets and rooms given by hand.
+#[cfg(test)]
+mod tests {
+    use super::*;
+
+    #[test]
+    fn a_type_sheet_without_words_is_15() {
+        assert_eq!(encode_key(&[], &ValueSheet::of(&[1, 0], &[]), &mut [0; 9]).said(), (15, 0));
+    }
+
+    #[test]
+    fn a_value_sheet_whose_pool_is_short_is_16() {
+        assert_eq!(encode_key(&[2], &ValueSheet::of(&[2, 5], b"abc"), &mut [0; 9]).said(), (16, 0));
+    }
+
+    #[test]
+    fn a_type_is_judged_before_a_value() {
+        assert_eq!(encode_key(&[9], &ValueSheet::of(&[9], &[]), &mut []).said(), (15, 0));
+    }
+
+    #[test]
+    fn int_0_into_no_room_is_17_with_1() {
+        assert_eq!(encode_key(&[1], &ValueSheet::of(&[1, 0], &[]), &mut []).said(), (17, 1));
+    }
+
+    #[test]
+    fn bytes_that_are_not_utf_8_are_4_for_put_str_before_17() {
+        assert_eq!(put_str(&mut [], 0, &[0xFF]).said(), (4, 0));
+    }
+
+    #[test]
+    fn words_are_reported_before_pool_and_a_refusal_writes_nothing() {
+        let (mut words, mut pool) = ([0xEE; 5], [0xEE; 0]);
+        assert_eq!(decode_key(&[5, 2, 3, 1], &[0x53, 0x0A, 0, 0x49, 7], &mut words, &mut pool).said(), (17, 6));
+        assert_eq!(words, [0xEE; 5]);
+        let mut words = [0xEE; 6];
+        assert_eq!(decode_key(&[5, 2, 3, 1], &[0x53, 0x0A, 0, 0x49, 7], &mut words, &mut pool).said(), (17, 1));
+        assert_eq!(words, [0xEE; 6]);
+    }
+
+    #[test]
+    fn a_used_length_over_the_buffer_is_17_with_it() {
+        let mut buffer = [0x53, 0x0A, 0, 0x49, 7];
+        assert_eq!(replace(&[5, 2, 3, 1], &mut buffer, 6, 1, &ValueSheet::of(&[1, 8], &[])).said(), (17, 6));
+        assert_eq!(buffer, [0x53, 0x0A, 0, 0x49, 7]);
+    }
+}

@@ -1,0 +1,459 @@
+use std::fmt;
+
+/// The low bits of a reference that are its sequence; the high ones are its predicate. The only place that names the split.
+const SEQUENCE_BITS: u32 = 32;
+const MAX_SEQUENCE: u64 = (1 << SEQUENCE_BITS) - 1;
+
+/// A predicate's number: what a reference refers to.
+#[derive(Debug, Clone, Copy, PartialEq, Eq, PartialOrd, Ord, Hash)]
+pub struct PredicateId(pub u32);
+
+/// A reference: a predicate (the high 32 bits) and a sequence (the low 32).
+///
+/// ```
+/// use tuple::{FactId, PredicateId};
+///
+/// let id = FactId::new(PredicateId(7), 1).unwrap();
+/// assert_eq!(id.raw(), 0x0000_0007_0000_0001);
+/// assert_eq!((id.predicate(), id.sequence()), (PredicateId(7), 1));
+/// assert_eq!(FactId::new(PredicateId(7), 0), None);
+/// ```
+#[derive(Debug, Clone, Copy, PartialEq, Eq, PartialOrd, Ord, Hash)]
+pub struct FactId(u64);
+
+impl FactId {
+    /// The reference to this predicate with this sequence; none where the sequence is 0 or too large.
+    #[must_use]
+    pub fn new(predicate: PredicateId, sequence: u64) -> Option<FactId> {
+        if sequence == 0 || sequence > MAX_SEQUENCE || u64::from(predicate.0) > u64::MAX >> SEQUENCE_BITS {
+            return None;
+        }
+        Some(FactId((u64::from(predicate.0) << SEQUENCE_BITS) | sequence))
+    }
+
+    /// Any 64 bits as a reference; the calls refuse what is none.
+    #[must_use]
+    pub fn from_raw(raw: u64) -> FactId {
+        FactId(raw)
+    }
+
+    /// The 64 bits.
+    #[must_use]
+    pub fn raw(self) -> u64 {
+        self.0
+    }
+
+    /// The predicate that it refers to.
+    #[must_use]
+    pub fn predicate(self) -> PredicateId {
+        PredicateId((self.0 >> SEQUENCE_BITS) as u32)
+    }
+
+    /// Its sequence.
+    #[must_use]
+    pub fn sequence(self) -> u64 {
+        self.0 & MAX_SEQUENCE
+    }
+}
+
+/// The kinds of types, by the number that begins each on a sheet.
+#[derive(Debug, Clone, Copy, PartialEq, Eq, PartialOrd, Ord, Hash)]
+pub enum Kind {
+    /// 1
+    Int,
+    /// 2
+    Str,
+    /// 3
+    Bytes,
+    /// 4
+    Fact,
+    /// 5
+    Record,
+    /// 6
+    Union,
+}
+
+impl Kind {
+    pub(crate) fn numbered(number: u64) -> Option<Kind> {
+        [Kind::Int, Kind::Str, Kind::Bytes, Kind::Fact, Kind::Record, Kind::Union]
+            .into_iter()
+            .find(|kind| u64::from(kind.number()) == number)
+    }
+
+    /// The number on a sheet, 1 to 6.
+    #[must_use]
+    pub fn number(self) -> u32 {
+        match self {
+            Kind::Int => 1,
+            Kind::Str => 2,
+            Kind::Bytes => 3,
+            Kind::Fact => 4,
+            Kind::Record => 5,
+            Kind::Union => 6,
+        }
+    }
+}
+
+impl fmt::Display for Kind {
+    fn fmt(&self, f: &mut fmt::Formatter<'_>) -> fmt::Result {
+        f.write_str(match self {
+            Kind::Int => "int",
+            Kind::Str => "string",
+            Kind::Bytes => "bytes",
+            Kind::Fact => "reference",
+            Kind::Record => "record",
+            Kind::Union => "union",
+        })
+    }
+}
+
+/// One alternative of a union type.
+#[derive(Debug, Clone, PartialEq, Eq, Hash)]
+pub struct Alternative {
+    /// its discriminant; where two alternatives have the same, the first counts
+    pub disc: u32,
+    /// its payload's type
+    pub ty: Type,
+}
+
+/// A type of keys or of their fields. Fields and alternatives go by position and discriminant; they have no names.
+///
+/// ```
+/// use tuple::Type;
+///
+/// // a tank key: its tag and a number
+/// let tank = Type::record([Type::Bytes, Type::Int]);
+/// assert_eq!(tank.sheet(), [5, 2, 3, 1]);
+/// ```
+#[derive(Debug, Clone, PartialEq, Eq, Hash)]
+pub enum Type {
+    /// an integer of 64 bits
+    Int,
+    /// text
+    Str,
+    /// any bytes
+    Bytes,
+    /// a reference to this predicate
+    Fact(PredicateId),
+    /// fields in order
+    Record(Vec<Type>),
+    /// one of several alternatives
+    Union(Vec<Alternative>),
+}
+
+impl Type {
+    /// The record type of these fields.
+    pub fn record(fields: impl IntoIterator<Item = Type>) -> Type {
+        Type::Record(fields.into_iter().collect())
+    }
+
+    /// The union type of these alternatives, each a discriminant and the payload's type.
+    ///
+    /// ```
+    /// use tuple::Type;
+    ///
+    /// // a dose: grams by the scale, or a note by hand
+    /// let dose = Type::union([(1, Type::Int), (2, Type::Str)]);
+    /// assert_eq!(dose.sheet(), [6, 2, 1, 1, 2, 2]);
+    /// ```
+    pub fn union(alternatives: impl IntoIterator<Item = (u32, Type)>) -> Type {
+        Type::Union(alternatives.into_iter().map(|(disc, ty)| Alternative { disc, ty }).collect())
+    }
+
+    /// The type's kind.
+    #[must_use]
+    pub fn kind(&self) -> Kind {
+        match self {
+            Type::Int => Kind::Int,
+            Type::Str => Kind::Str,
+            Type::Bytes => Kind::Bytes,
+            Type::Fact(_) => Kind::Fact,
+            Type::Record(_) => Kind::Record,
+            Type::Union(_) => Kind::Union,
+        }
+    }
+
+    /// The type sheet: its words, outermost first, as include/tuple.h describes them. It is made for every type; a call refuses one that is too long or
+    /// nests too deep.
+    #[must_use]
+    pub fn sheet(&self) -> Vec<u32> {
+        // A count over 2^32 - 1 stands as that: such a sheet is too long whatever its counts.
+        let count = |n: usize| u32::try_from(n).unwrap_or(u32::MAX);
+        let mut words = Vec::new();
+        let mut due = vec![(None, self)];
+        while let Some((disc, ty)) = due.pop() {
+            words.extend(disc);
+            words.push(ty.kind().number());
+            match ty {
+                Type::Int | Type::Str | Type::Bytes => {}
+                Type::Fact(predicate) => words.push(predicate.0),
+                Type::Record(fields) => {
+                    words.push(count(fields.len()));
+                    due.extend(fields.iter().rev().map(|field| (None, field)));
+                }
+                Type::Union(alternatives) => {
+                    words.push(count(alternatives.len()));
+                    due.extend(alternatives.iter().rev().map(|alternative| (Some(alternative.disc), &alternative.ty)));
+                }
+            }
+        }
+        words
+    }
+}
+
+/// A value. The variants stand in the order in which kinds compare, so that [`Ord`] is the order of values and of their keys; [`compare`](crate::compare)
+/// is the library's answer to the same question.
+///
+/// ```
+/// use tuple::Value;
+///
+/// // tank 0A 00 with number 7
+/// let tank = Value::record([Value::from(b"\x0A\x00"), Value::Int(7)]);
+/// assert_eq!(tank.sheet().words(), [5, 2, 3, 2, 1, 7]);
+/// assert_eq!(tank.sheet().pool(), [0x0A, 0x00]);
+/// assert!(Value::from("tank") < Value::Int(i64::MIN) && Value::Int(-1) < Value::Int(0));
+/// ```
+#[derive(Debug, Clone, PartialEq, Eq, PartialOrd, Ord, Hash)]
+pub enum Value {
+    /// nothing; it fits no type
+    Null,
+    /// text
+    Str(String),
+    /// fields in order
+    Record(Vec<Value>),
+    /// an integer
+    Int(i64),
+    /// a reference
+    FactRef(FactId),
+    /// one alternative of a union
+    Union {
+        /// its discriminant
+        disc: u32,
+        /// its payload
+        value: Box<Value>,
+    },
+    /// any bytes
+    Bytes(Vec<u8>),
+}
+
+impl Value {
+    /// The record of these fields.
+    pub fn record(fields: impl IntoIterator<Item = Value>) -> Value {
+        Value::Record(fields.into_iter().collect())
+    }
+
+    /// The alternative of a union with this discriminant.
+    #[must_use]
+    pub fn union(disc: u32, value: Value) -> Value {
+        Value::Union { disc, value: Box::new(value) }
+    }
+
+    /// The value sheet: words and pool, as include/tuple.h describes them. It is made for every value; a call refuses one that is too long or nests too deep.
+    #[must_use]
+    pub fn sheet(&self) -> ValueSheet {
+        let mut sheet = ValueSheet::default();
+        let mut due = vec![self];
+        while let Some(value) = due.pop() {
+            match value {
+                Value::Null => sheet.words.push(0),
+                Value::Int(number) => sheet.words.extend([1, *number as u64]),
+                Value::Str(text) => sheet.run(2, text.as_bytes()),
+                Value::Bytes(bytes) => sheet.run(3, bytes),
+                Value::FactRef(id) => sheet.words.extend([4, id.raw()]),
+                Value::Record(fields) => {
+                    sheet.words.extend([5, fields.len() as u64]);
+                    due.extend(fields.iter().rev());
+                }
+                Value::Union { disc, value } => {
+                    sheet.words.extend([6, u64::from(*disc)]);
+                    due.push(value);
+                }
+            }
+        }
+        sheet
+    }
+
+    /// The value on a sheet that the library wrote; none where the sheet is not one value.
+    pub(crate) fn read(words: &[u64], pool: &[u8]) -> Option<Value> {
+        let mut rest = Rest { words, pool };
+        let value = rest.value()?;
+        (rest.words.is_empty() && rest.pool.is_empty()).then_some(value)
+    }
+}
+
+impl From<i64> for Value {
+    fn from(number: i64) -> Value {
+        Value::Int(number)
+    }
+}
+
+impl From<&str> for Value {
+    fn from(text: &str) -> Value {
+        Value::Str(text.to_owned())
+    }
+}
+
+impl From<String> for Value {
+    fn from(text: String) -> Value {
+        Value::Str(text)
+    }
+}
+
+impl From<&[u8]> for Value {
+    fn from(bytes: &[u8]) -> Value {
+        Value::Bytes(bytes.to_vec())
+    }
+}
+
+impl<const N: usize> From<&[u8; N]> for Value {
+    fn from(bytes: &[u8; N]) -> Value {
+        Value::Bytes(bytes.to_vec())
+    }
+}
+
+impl From<Vec<u8>> for Value {
+    fn from(bytes: Vec<u8>) -> Value {
+        Value::Bytes(bytes)
+    }
+}
+
+impl From<FactId> for Value {
+    fn from(id: FactId) -> Value {
+        Value::FactRef(id)
+    }
+}
+
+/// A value as the library takes it: words, and a pool of the bytes of its strings and byte fields in order.
+#[derive(Debug, Clone, Default, PartialEq, Eq)]
+pub struct ValueSheet {
+    words: Vec<u64>,
+    pool: Vec<u8>,
+}
+
+impl ValueSheet {
+    /// The words, outermost first.
+    #[must_use]
+    pub fn words(&self) -> &[u64] {
+        &self.words
+    }
+
+    /// The bytes of all strings and byte fields, in order.
+    #[must_use]
+    pub fn pool(&self) -> &[u8] {
+        &self.pool
+    }
+
+    fn run(&mut self, kind: u64, bytes: &[u8]) {
+        self.words.extend([kind, bytes.len() as u64]);
+        self.pool.extend_from_slice(bytes);
+    }
+
+    /// A sheet of any words and pool.
+    #[cfg(test)]
+    pub(crate) fn of(words: &[u64], pool: &[u8]) -> ValueSheet {
+        ValueSheet { words: words.to_vec(), pool: pool.to_vec() }
+    }
+}
+
+/// What is left of a sheet to read.
+struct Rest<'a> {
+    words: &'a [u64],
+    pool: &'a [u8],
+}
+
+impl Rest<'_> {
+    fn word(&mut self) -> Option<u64> {
+        let (word, rest) = self.words.split_first()?;
+        self.words = rest;
+        Some(*word)
+    }
+
+    fn run(&mut self) -> Option<Vec<u8>> {
+        let length = usize::try_from(self.word()?).ok()?;
+        let (bytes, rest) = self.pool.split_at_checked(length)?;
+        self.pool = rest;
+        Some(bytes.to_vec())
+    }
+
+    /// Nests as deep as the sheet does: at most 257 groups, since a decoded value has no more.
+    fn value(&mut self) -> Option<Value> {
+        Some(match self.word()? {
+            0 => Value::Null,
+            1 => Value::Int(self.word()? as i64),
+            2 => Value::Str(String::from_utf8(self.run()?).ok()?),
+            3 => Value::Bytes(self.run()?),
+            4 => Value::FactRef(FactId(self.word()?)),
+            5 => {
+                let count = self.word()?;
+                Value::Record((0..count).map(|_| self.value()).collect::<Option<Vec<Value>>>()?)
+            }
+            6 => Value::union(u32::try_from(self.word()?).ok()?, self.value()?),
+            _ => return None,
+        })
+    }
+}
+
+#[cfg(test)]
+mod tests {
+    use super::*;
+
+    #[test]
+    fn a_sheet_reads_as_the_value_it_was_made_from() {
+        let value = Value::record([
+            Value::Null,
+            Value::Int(-1),
+            Value::from("a\0b"),
+            Value::from(b"\x00\xFF"),
+            Value::from(FactId::from_raw(u64::MAX)),
+            Value::record([]),
+            Value::union(u32::MAX, Value::record([Value::from(""), Value::Int(i64::MIN)])),
+        ]);
+        let sheet = value.sheet();
+        assert_eq!(sheet.words()[..8], [5, 7, 0, 1, u64::MAX, 2, 3, 3]);
+        assert_eq!(sheet.pool(), b"a\0b\x00\xFF");
+        assert_eq!(Value::read(sheet.words(), sheet.pool()), Some(value));
+    }
+
+    #[test]
+    fn a_sheet_that_is_not_one_value_reads_as_none() {
+        for (words, pool) in [
+            (&[][..], &[][..]),
+            (&[1], &[]),
+            (&[2, 5], b"abc"),
+            (&[2, 1], b"\xFF"),
+            (&[0, 0], &[]),
+            (&[0], b"a"),
+            (&[7], &[]),
+            (&[6, 1 << 32, 0], &[]),
+        ] {
+            assert_eq!(Value::read(words, pool), None, "{words:?}");
+        }
+    }
+
+    #[test]
+    fn a_type_sheet_stands_outermost_first() {
+        let ty = Type::record([
+            Type::Fact(PredicateId(7)),
+            Type::union([(1, Type::record([Type::Int, Type::Str])), (1, Type::Bytes)]),
+            Type::record([]),
+        ]);
+        assert_eq!(ty.sheet(), [5, 3, 4, 7, 6, 2, 1, 5, 2, 1, 2, 1, 3, 5, 0]);
+    }
+
+    #[test]
+    fn a_value_as_deep_as_memory_allows_has_a_sheet() {
+        let mut value = Value::Int(0);
+        for _ in 0..4_000 {
+            value = Value::union(1, value);
+        }
+        assert_eq!(value.sheet().words().len(), 8_002);
+    }
+
+    #[test]
+    fn the_split_of_a_reference() {
+        let greatest = FactId::new(PredicateId(u32::MAX), MAX_SEQUENCE).unwrap();
+        assert_eq!(greatest.raw(), u64::MAX);
+        assert_eq!(FactId::new(PredicateId(0), MAX_SEQUENCE + 1), None);
+        assert_eq!(FactId::from_raw(7 << SEQUENCE_BITS).sequence(), 0);
+    }
+}
