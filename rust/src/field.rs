@@ -60,7 +60,7 @@ fn part<'a>(bytes: &'a [u8], call: impl Fn(&[u8], &mut [u8]) -> Part) -> Result<
 pub fn get_str(bytes: &[u8]) -> Result<(Cow<'_, str>, usize), Refusal> {
     let (payload, used) = part(bytes, ffi::get_str)?;
     let text = match payload {
-        Cow::Borrowed(text) => str::from_utf8(text).ok().map(Cow::Borrowed),
+        Cow::Borrowed(text) => std::str::from_utf8(text).ok().map(Cow::Borrowed),
         Cow::Owned(text) => String::from_utf8(text).ok().map(Cow::Owned),
     };
     Ok((text.expect("libtuple.a accepts UTF-8 alone"), used))
