@@ -29,11 +29,16 @@
 //! ```
 //!
 //! Every call is total: it answers, or refuses with a [`Refusal`] that has a number, a name and a detail. None answers `NoRoom`: where the library does, the
-//! buffer is grown by what is needed and the call made again. The calls use at most 160 KB of the caller's stack, on the deepest types and values.
+//! buffer is grown by what is needed and the call made again. The library uses at most 160 KB of the caller's stack, on the deepest types and values.
 
 #![deny(missing_docs)]
 #![deny(unsafe_op_in_unsafe_fn)]
 #![deny(clippy::undocumented_unsafe_blocks)]
+
+/// The example of README.md, run with the others.
+#[cfg(doctest)]
+#[doc = include_str!("../README.md")]
+struct Readme;
 
 mod ffi;
 mod field;

@@ -273,12 +273,53 @@ impl Value {
         sheet
     }
 
-    /// The value on a sheet that the library wrote; none where the sheet is not one value.
+    /// The value on a sheet that the library wrote; none where the sheet is not one value. It does not recur, so that a deep value takes no stack.
     pub(crate) fn read(words: &[u64], pool: &[u8]) -> Option<Value> {
         let mut rest = Rest { words, pool };
-        let value = rest.value()?;
-        (rest.words.is_empty() && rest.pool.is_empty()).then_some(value)
+        let mut open: Vec<Open> = Vec::new();
+        loop {
+            let mut value = match rest.word()? {
+                0 => Value::Null,
+                1 => Value::Int(rest.word()? as i64),
+                2 => Value::Str(String::from_utf8(rest.run()?).ok()?),
+                3 => Value::Bytes(rest.run()?),
+                4 => Value::FactRef(FactId(rest.word()?)),
+                5 => match rest.word()? {
+                    0 => Value::Record(Vec::new()),
+                    count => {
+                        open.push(Open::Record { count, fields: Vec::new() });
+                        continue;
+                    }
+                },
+                6 => {
+                    open.push(Open::Union { disc: u32::try_from(rest.word()?).ok()? });
+                    continue;
+                }
+                _ => return None,
+            };
+            // The value goes into the group that is open, which it may complete, and so on outward.
+            loop {
+                value = match open.pop() {
+                    None => return (rest.words.is_empty() && rest.pool.is_empty()).then_some(value),
+                    Some(Open::Union { disc }) => Value::union(disc, value),
+                    Some(Open::Record { count, mut fields }) => {
+                        fields.push(value);
+                        if (fields.len() as u64) < count {
+                            open.push(Open::Record { count, fields });
+                            break;
+                        }
+                        Value::Record(fields)
+                    }
+                };
+            }
+        }
     }
+}
+
+/// A group whose values are being read.
+enum Open {
+    Record { count: u64, fields: Vec<Value> },
+    Union { disc: u32 },
 }
 
 impl From<i64> for Value {
@@ -373,23 +414,6 @@ impl Rest<'_> {
         let (bytes, rest) = self.pool.split_at_checked(length)?;
         self.pool = rest;
         Some(bytes.to_vec())
-    }
-
-    /// Nests as deep as the sheet does: at most 257 groups, since a decoded value has no more.
-    fn value(&mut self) -> Option<Value> {
-        Some(match self.word()? {
-            0 => Value::Null,
-            1 => Value::Int(self.word()? as i64),
-            2 => Value::Str(String::from_utf8(self.run()?).ok()?),
-            3 => Value::Bytes(self.run()?),
-            4 => Value::FactRef(FactId(self.word()?)),
-            5 => {
-                let count = self.word()?;
-                Value::Record((0..count).map(|_| self.value()).collect::<Option<Vec<Value>>>()?)
-            }
-            6 => Value::union(u32::try_from(self.word()?).ok()?, self.value()?),
-            _ => return None,
-        })
     }
 }
 

@@ -3,8 +3,10 @@
 mod common;
 
 use common::nested;
+use std::cmp::Ordering;
 use tuple::{
-    FactId, PredicateId, Refusal, Type, Value, above_field, bounds, decode_key, decode_typed, encode_key, encode_typed, replace, strinc,
+    FactId, PredicateId, Refusal, Type, Value, above_field, bounds, compare, decode_key, decode_typed, encode_key, encode_typed, replace,
+    strinc,
 };
 
 /// A specimen's bytes, from hexadecimal.
@@ -54,6 +56,23 @@ fn records_256_deep_pass_and_257_are_6() {
     let key = encode_key(&ty, &value).unwrap(); // the top record of a key stands bare
     assert_eq!(key, bytes);
     assert_eq!(decode_key(&ty, &key), Ok(value));
+}
+
+#[test]
+fn a_thread_with_256_kb_of_stack_is_enough_for_the_deepest() {
+    let calls = || {
+        let (ty, value) = nested(257, Type::Int, Value::Int(0));
+        let mut key = encode_key(&ty, &value).unwrap();
+        let found = decode_key(&ty, &key).unwrap();
+        assert_eq!(compare(&found, &value), Ok(Ordering::Equal));
+        assert_eq!(bounds(&ty, &key, 1).unwrap().start, key);
+        let (_, field) = nested(256, Type::Int, Value::Int(1));
+        replace(&ty, &mut key, 0, &field).unwrap();
+        let (ty, value) = nested(320, Type::Int, Value::Int(0));
+        assert_eq!(encode_key(&ty, &value), Err(Refusal::BadRecord));
+        assert_eq!(compare(&value, &value), Ok(Ordering::Equal));
+    };
+    std::thread::Builder::new().stack_size(256 << 10).spawn(calls).unwrap().join().unwrap();
 }
 
 #[test]
