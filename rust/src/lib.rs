@@ -32,7 +32,7 @@
 //! buffer is grown by what is needed and the call made again. The library uses at most 160 KB of the caller's stack, on the deepest types and values.
 
 #![deny(missing_docs)]
-#![deny(unsafe_op_in_unsafe_fn)]
+#![deny(unsafe_code)]
 #![deny(clippy::undocumented_unsafe_blocks)]
 
 /// The example of README.md, run with the others.
@@ -40,11 +40,15 @@
 #[doc = include_str!("../README.md")]
 struct Readme;
 
+#[allow(unsafe_code)]
 mod ffi;
 mod field;
 mod refusal;
 mod room;
 mod sheet;
+
+#[cfg(test)]
+mod header;
 
 pub use field::{get_bytes, get_i64, get_str, get_u64, put_bytes, put_fact_id, put_i64, put_str, put_u64};
 pub use refusal::Refusal;

@@ -16,7 +16,7 @@ fn said<T>(answer: Result<T, tuple::Refusal>) -> (u32, u64) {
 fn encoding() {
     let fact = Type::Fact(PredicateId(7));
     let pair = Type::record([Type::Int, fact.clone()]);
-    let reserved = Value::from(FactId::from_raw(8 << 32));
+    let reserved = Value::from(FactId::from_raw(FactId::new(PredicateId(8), 1).unwrap().raw() - 1));
     assert_eq!(said(encode_key(&fact, &reserved)), (9, 0)); // the sequence before the predicate
     assert_eq!(said(encode_key(&pair, &Value::record([Value::Null, reserved.clone()]))), (11, 1)); // fields in order
     assert_eq!(said(encode_key(&pair, &Value::record([reserved]))), (6, 0)); // the count before the fields

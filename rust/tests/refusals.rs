@@ -19,6 +19,11 @@ fn reference(predicate: u32) -> Value {
     Value::from(FactId::new(PredicateId(predicate), 1).unwrap())
 }
 
+/// A reference with sequence 0.
+fn reserved(predicate: u32) -> Value {
+    Value::from(FactId::from_raw(FactId::new(PredicateId(predicate), 1).unwrap().raw() - 1))
+}
+
 #[test]
 fn the_table() {
     let one = Type::record([Type::Int]);
@@ -89,7 +94,7 @@ fn a_refused_replacement_changes_nothing() {
         (4, Value::Int(0), 18, 0),
         (1, Value::Null, 11, 1),
         (0, Value::from("0A"), 11, 3),
-        (2, Value::from(FactId::from_raw(7 << 32)), 9, 0),
+        (2, reserved(7), 9, 0),
         (2, reference(8), 8, 8),
         (3, Value::union(2, Value::Int(0)), 10, 2),
         (3, Value::union(1, Value::Null), 12, 1),

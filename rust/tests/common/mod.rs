@@ -61,7 +61,7 @@ impl Random {
             0 => Type::Int,
             1 => Type::Str,
             2 => Type::Bytes,
-            3 => Type::Fact(PredicateId(self.pick(&[0, 7, u32::MAX]))),
+            3 => Type::Fact(PredicateId(self.pick(&[0, 7, 0xFF_FFFF]))),
             4 | 5 => self.record(depth),
             _ => {
                 let count = 1 + self.below(3);
