@@ -1,5 +1,5 @@
 -- The search for a union's alternative.
-use Prim.Native.Nat.{ℕ, zero, suc, _+_, _-_, _≤_, _<_}
+use Prim.Native.Nat.{ℕ, zero, suc, _+_, _-_, _*_, _≤_, _<_}
 use mathlib.Core.List.{List, [], _∷_}
 use mathlib.Core.Bool.{Bool, true, false}
 use mathlib.Core.Option.{Option, some, none}
@@ -11,10 +11,11 @@ use borrow.Author.Tests.{eq-eqb, ne-eqb}
 use Rattle.format.specs.Tree.{Ty, Alts}
 use Rattle.format.specs.Sheet.{altCount, tyWords}
 use Rattle.format.specs.TypeSheet.{maxGroups, typeAt, nesting, altNestings}
-use Rattle.sheet.specs.Places.{Ends, Chosen, Picks}
+use Rattle.sheet.specs.Places.{Ends, Chosen, Picks, Plain, Rows}
 use Rattle.format.proofs.TypePlaces.{TypeIn, AltsIn, kind-is, union-in, alt-in}
 use Rattle.format.proofs.Choose.{choose, pick}
 use Rattle.sheet.proofs.EndLaws.{end-is}
+use Rattle.sheet.proofs.TypeWalk.{plain-end, plain-next, plain-first}
 
 -- what is known of the alternatives that are left, up to e
 pub record Rest (w : List ℕ) (e left place : ℕ) (rest : Alts) : Type 0 where
@@ -115,3 +116,20 @@ module _ (w : List ℕ) (at tag : ℕ) where
                   subst (λ (p : ℕ). Rest w m (left - 1) p more) (sym (found w m left place x r t more a e)) (a .behind),
                   q ∙ ap (λ (b : Bool). pick b t more (choose tag more)) (ne-eqb x tag (λ z. n (same ∙ a .tag ∙ z))),
                 )
+
+-- rows of plain alternatives without the tag are passed
+rows-left : (m : ℕ) (w : List ℕ) (at tag left place : ℕ) → Left w at tag left place → m ≤ left → place + 2 * m ≤ length w → Plain w place tag m → Left w at tag (left - m) (place + 2 * m)
+rows-left zero w at tag left place f l h p =
+    let a : left ≡ left - 0 = omega arith in
+    let b : place ≡ place + 2 * 0 = omega arith in
+    subst (λ (q : ℕ). Left w at tag (left - 0) q) b (subst (λ (n : ℕ). Left w at tag n place) a f)
+rows-left (suc m) w at tag left place f l h p =
+    let k = plain-first w place tag m p in
+    let o = go-on w at tag left place f (omega arith) (place + 2) (plain-end w place maxGroups (omega arith) (k .0) (k .1)) (getD w place 0) refl (k .2) in
+    let r = rows-left m w at tag (left - 1) (place + 2) o (omega arith) (omega arith) (plain-next w place tag m p) in
+    let a : left - 1 - m ≡ left - suc m = omega arith in
+    let b : place + 2 + 2 * m ≡ place + 2 * suc m = omega arith in
+    subst (λ (q : ℕ). Left w at tag (left - suc m) q) b (subst (λ (n : ℕ). Left w at tag n (place + 2 + 2 * m)) a r)
+
+pub past-rows : (w : List ℕ) (at tag n : ℕ) → Rows w (at + 2) (getD w (at + 1) 0) tag n → Left w at tag (getD w (at + 1) 0 - n) (at + 2 + 2 * n)
+past-rows w at tag n r = rows-left n w at tag (getD w (at + 1) 0) (at + 2) (all-left w at tag) (r .few) (r .inside) (r .plain)

@@ -1,6 +1,7 @@
 -- What the proofs of several functions use.
 pub mod EndLaws
 mod TypeWalk
+mod RowLaws
 mod AdmitType
 mod AltWalk
 mod ValueWalk

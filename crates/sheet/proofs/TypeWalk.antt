@@ -1,5 +1,5 @@
 -- What each step of the walk over a type sheet finds.
-use Prim.Native.Nat.{ℕ, zero, suc, _+_, _-_, _≤_, _<_}
+use Prim.Native.Nat.{ℕ, zero, suc, _+_, _-_, _*_, _≤_, _<_}
 use mathlib.Core.List.{List, [], _∷_}
 use mathlib.Core.Path.{_≡_, refl, ap, sym, _∙_, subst}
 use native.Mathlib.Omega.{arith}
@@ -7,7 +7,7 @@ use lib.ListN.{length, drop, getD, drop-of-length-le}
 use Rattle.format.specs.Tree.{Ty, Tys, Alts}
 use Rattle.format.specs.TypeSheet.{Part, got, no, map, after, oneType, types, alts, typeAt}
 use Rattle.format.proofs.SheetPlaces.{front, front2}
-use Rattle.sheet.specs.Places.{Ends}
+use Rattle.sheet.specs.Places.{Ends, Plain, Rows}
 
 -- ---- one type
 
@@ -275,3 +275,37 @@ module _ (w : List ℕ) (at count g left place : ℕ) (f : Others w at count g l
     alts-out h =
         let n : alts (typeAt g) count (drop at w) ≡ no = some-alts ∙ ap (λ (l : List ℕ). map (f .make) (alts (typeAt g) (suc (left - 1)) l)) (drop-of-length-le w h) in
         subst (λ (x : Part Alts). Ends w at x 0) (sym n) refl
+
+-- the end of a plain alternative's type
+pub plain-end : (w : List ℕ) (p g : ℕ) → p + 2 ≤ length w → 0 < getD w (p + 1) 0 → getD w (p + 1) 0 < 4 → Ends w (p + 1 + 1) (typeAt g (drop (p + 1) w)) (p + 2)
+plain-end w p g h a b =
+    let e : p + 1 + 1 ≡ p + 2 = omega arith in
+    subst (λ (r : ℕ). Ends w (p + 1 + 1) (typeAt g (drop (p + 1) w)) r) e (scalar w (p + 1) g (omega arith) (λ z. omega arith) b)
+
+-- plain alternatives behind the first
+pub plain-next : (w : List ℕ) (at tag m : ℕ) → Plain w at tag (suc m) → Plain w (at + 2) tag m
+plain-next w at tag m h i l =
+    let e : at + 2 + 2 * i ≡ at + 2 * suc i = omega arith in
+    subst (λ (p : ℕ). (0 < getD w (p + 1) 0) × (getD w (p + 1) 0 < 4) × (getD w p 0 ≡ tag → ⊥)) (sym e) (h (suc i) (omega arith))
+
+-- and the first
+pub plain-first : (w : List ℕ) (at tag m : ℕ) → Plain w at tag (suc m) → (0 < getD w (at + 1) 0) × (getD w (at + 1) 0 < 4) × (getD w at 0 ≡ tag → ⊥)
+plain-first w at tag m h =
+    let e : at + 2 * 0 ≡ at = omega arith in
+    subst (λ (p : ℕ). (0 < getD w (p + 1) 0) × (getD w (p + 1) 0 < 4) × (getD w p 0 ≡ tag → ⊥)) e (h 0 (omega arith))
+
+rows-on : (m : ℕ) (w : List ℕ) (at count g left place tag : ℕ) → Others w at count g left place → m ≤ left → place + 2 * m ≤ length w → Plain w place tag m → Others w at count g (left - m) (place + 2 * m)
+rows-on zero w at count g left place tag f l h p =
+    let a : left ≡ left - 0 = omega arith in
+    let b : place ≡ place + 2 * 0 = omega arith in
+    subst (λ (q : ℕ). Others w at count g (left - 0) q) b (subst (λ (n : ℕ). Others w at count g n place) a f)
+rows-on (suc m) w at count g left place tag f l h p =
+    let k = plain-first w place tag m p in
+    let o = alts-go w at count g left place f (omega arith) (omega arith) (place + 2) (plain-end w place g (omega arith) (k .0) (k .1)) (λ z. omega arith) in
+    let r = rows-on m w at count g (left - 1) (place + 2) tag o (omega arith) (omega arith) (plain-next w place tag m p) in
+    let a : left - 1 - m ≡ left - suc m = omega arith in
+    let b : place + 2 + 2 * m ≡ place + 2 * suc m = omega arith in
+    subst (λ (q : ℕ). Others w at count g (left - suc m) q) b (subst (λ (n : ℕ). Others w at count g n (place + 2 + 2 * m)) a r)
+
+pub rows-start : (w : List ℕ) (at count g tag n : ℕ) → at ≤ length w → Rows w at count tag n → Others w at count g (count - n) (at + 2 * n)
+rows-start w at count g tag n h r = rows-on n w at count g count at tag (alts-start w at count g h) (r .few) (r .inside) (r .plain)

@@ -1,5 +1,5 @@
 -- What the walks over sheets answer: places, as the code has them, for the words that are left.
-use Prim.Native.Nat.{ℕ, _+_, _≤_, _<_}
+use Prim.Native.Nat.{ℕ, _+_, _*_, _≤_, _<_}
 use mathlib.Core.List.{List}
 use mathlib.Core.Option.{Option, some, none}
 use mathlib.Core.Path.{_≡_}
@@ -30,6 +30,16 @@ pub record PlainEnds (w : List ℕ) (at r : ℕ) : Type 0 where
 -- r and q are the ends of the Str or Bytes at `at` and of its bytes, which is no group
 pub record RunEnds (w b : List ℕ) (at from r q : ℕ) : Type 0 where
   pub ends : (g : ℕ) → ValueEnds w b (at + 1) from (valueAt g (drop at w) (drop from b)) r q
+
+-- the n alternatives from `at` on are of plain types, Int, Str or Bytes, and none has the tag
+abbrev pub Plain : (w : List ℕ) (at tag n : ℕ) → Type 0
+Plain w at tag n = (i : ℕ) → i < n → (0 < getD w (at + 2 * i + 1) 0) × (getD w (at + 2 * i + 1) 0 < 4) × (getD w (at + 2 * i) 0 ≡ tag → ⊥)
+
+-- r of `count` alternatives stand there so
+pub record Rows (w : List ℕ) (at count tag r : ℕ) : Type 0 where
+  pub few : r ≤ count
+  pub inside : at + 2 * r ≤ length w
+  pub plain : Plain w at tag r
 
 -- r is the end of whatever type stands at p
 pub record Skips (w : List ℕ) (p r : ℕ) : Type 0 where

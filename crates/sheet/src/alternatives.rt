@@ -1,4 +1,5 @@
 // A union's alternatives: the one with a tag, and the place behind some of them.
+use crate::rows::plain_rows;
 use crate::types::alternatives_end;
 use crate::types::type_end;
 ghost use mathlib.Core.Path.{_≡_};
@@ -26,8 +27,10 @@ pub fn alternative(ty: &[u32], at: usize, tag: u64) -> Choice
     if ty.len() - at < 2 {
         return Choice { place: 0, left: 0 };
     }
-    let mut left = ty[at + 1];
-    let mut place = at + 2;
+    let count = ty[at + 1];
+    let rows = plain_rows(ty, at + 2, count, tag);
+    let mut left = count - rows;
+    let mut place = at + 2 + 2 * (rows as usize);
     while left > 0 {
         if place >= ty.len() {
             return Choice { place: 0, left: 0 };

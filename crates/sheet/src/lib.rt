@@ -1,4 +1,5 @@
 // Sheets: types and values as lists of words, admitted and walked.
+mod rows; // rows.rt: rows of plain alternatives
 mod types; // types.rt: where a type ends, and whether a type sheet is admitted
 mod alternatives; // alternatives.rt: a union's alternatives
 mod values; // values.rt: where a value ends, and whether a value sheet is admitted

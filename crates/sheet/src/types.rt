@@ -1,9 +1,13 @@
 // Type sheets: where a type ends, and whether a sheet is admitted.
+use crate::rows::plain_rows;
 ghost use mathlib.Core.Path.{_≡_};
 ghost use Prim.Native.Nat.{_+_, _≤_, _<_};
 ghost use lib.ListN.{length, drop, getD};
 ghost use Rattle.format.specs.TypeSheet.{typeAt, types, alts, typeOf, isSome};
 ghost use Rattle.sheet.specs.Places.{Ends, Skips};
+
+// A tag that no discriminant word has.
+const NO_TAG: u64 = 0x1_0000_0000;
 
 // The place behind the type at `at`, of at most `groups` groups in one another; 0 if there is none. Only a group is a call.
 pub fn type_end(ty: &[u32], at: usize, groups: usize) -> usize
@@ -69,8 +73,9 @@ pub fn alternatives_end(ty: &[u32], at: usize, count: u32, groups: usize) -> usi
     requires { ⌜ at ≤ length (now ty) ⌝ }
     ensures { λ r. ⌜ Ends (now (ty .entry)) at (alts (typeAt groups) count (drop at (now (ty .entry)))) r ⌝ }
 {
-    let mut left = count;
-    let mut place = at;
+    let rows = plain_rows(ty, at, count, NO_TAG);
+    let mut left = count - rows;
+    let mut place = at + 2 * (rows as usize);
     while left > 0 {
         if place >= ty.len() {
             return 0;

@@ -1,6 +1,6 @@
 use borrow.Author.Needs.{needs}
 use native.Mathlib.Omega.{arith}
-use Rattle.sheet.proofs.TypeWalk.{none-left, zero-kind, scalar, short, unknown, reference, too-deep, record-end, union-end, Fields, fields-start, fields-done, fields-fail, fields-go, Others, alts-start, alts-done, alts-fail, alts-go, alts-out}
+use Rattle.sheet.proofs.TypeWalk.{none-left, zero-kind, scalar, short, unknown, reference, too-deep, record-end, union-end, Fields, fields-start, fields-done, fields-fail, fields-go, Others, rows-start, alts-done, alts-fail, alts-go, alts-out}
 use Prim.Native.Nat.{ℕ, _+_, _*_, _<_}
 use borrow.Fn.Kinds.{In}
 use borrow.Fn.PlainCycle.{Measures, is, falls, and}
@@ -16,6 +16,7 @@ use Rattle.sheet.proofs.types.+alternatives_end+fields_end+group_end+ty
 use Rattle.sheet.proofs.types.type_end.Reads as type-end
 use Rattle.sheet.proofs.types.type_end.Kinds as type-end-kinds
 use Rattle.sheet.proofs.types.+alternatives_end+fields_end+group_end+type_end.Lts-type_end as type-end-lts
+use Rattle.sheet.proofs.rows.plain_rows.Reads as plain-rows-reads
 use Rattle.sheet.proofs.types.+alternatives_end+fields_end+group_end+type_end.{statement}
 use Rattle.sheet.proofs.types.+alternatives_end+fields_end+group_end+type_end.Tie.{close}
 
@@ -70,36 +71,65 @@ type-end-below t =
     and 1 type-end-kinds.ps (falls 1 type-end-kinds.ps _<_ μ-type-end t) type-end.Pre
 
 abbrev alternatives-end-Inv-loop : alternatives-end-lts.InvT-loop
-alternatives-end-Inv-loop ty at count groups left₀ place₀ left place = Others ty at count groups left place
+alternatives-end-Inv-loop ty at count groups rows left₀ place₀ left place = Others ty at count groups left place
 
 abbrev alternatives-end-μ-loop : alternatives-end-lts.MeasureT-loop
-alternatives-end-μ-loop ty at count groups left₀ place₀ left place = left
+alternatives-end-μ-loop ty at count groups rows left₀ place₀ left place = left
 
-alternatives-end-loop-holds : (t : ℕ) → alternatives-end-lts.Need-loop-holds (type-end-below t, type-end.Post) (alternatives-end-at t) alternatives-end.Post alternatives-end-Inv-loop alternatives-end-μ-loop
-alternatives-end-loop-holds t c = search alts-start
+-- src/types.rt:76:9
+alternatives-end-plain-rows-requires : (t : ℕ) → alternatives-end-lts.Need-plain-rows-requires (plain-rows-reads.Asked, plain-rows-reads.Learnt, type-end-below t, type-end.Post) (alternatives-end-at t) alternatives-end.Post alternatives-end-Inv-loop alternatives-end-μ-loop
+alternatives-end-plain-rows-requires t c κs = omega arith
 
-alternatives-end-returns : (t : ℕ) → alternatives-end-lts.Need-returns (type-end-below t, type-end.Post) (alternatives-end-at t) alternatives-end.Post alternatives-end-Inv-loop alternatives-end-μ-loop
+-- src/types.rt:77:20
+alternatives-end-sub-left : (t : ℕ) → alternatives-end-lts.Need-sub-left (plain-rows-reads.Asked, plain-rows-reads.Learnt, type-end-below t, type-end.Post) (alternatives-end-at t) alternatives-end.Post alternatives-end-Inv-loop alternatives-end-μ-loop
+alternatives-end-sub-left t c = omega (arith, c .plain-rows .ensures .few)
+
+-- src/types.rt:78:31
+alternatives-end-cast-place : (t : ℕ) → alternatives-end-lts.Need-cast-place (plain-rows-reads.Asked, plain-rows-reads.Learnt, type-end-below t, type-end.Post) (alternatives-end-at t) alternatives-end.Post alternatives-end-Inv-loop alternatives-end-μ-loop
+alternatives-end-cast-place t c = search needs
+
+-- src/types.rt:78:26
+alternatives-end-mul-place : (t : ℕ) → alternatives-end-lts.Need-mul-place (plain-rows-reads.Asked, plain-rows-reads.Learnt, type-end-below t, type-end.Post) (alternatives-end-at t) alternatives-end.Post alternatives-end-Inv-loop alternatives-end-μ-loop
+alternatives-end-mul-place t c = omega (arith, c .plain-rows .ensures .inside)
+
+-- src/types.rt:78:21
+alternatives-end-add-place : (t : ℕ) → alternatives-end-lts.Need-add-place (plain-rows-reads.Asked, plain-rows-reads.Learnt, type-end-below t, type-end.Post) (alternatives-end-at t) alternatives-end.Post alternatives-end-Inv-loop alternatives-end-μ-loop
+alternatives-end-add-place t c = omega (arith, c .plain-rows .ensures .inside)
+
+-- src/types.rt:79:5
+alternatives-end-loop-holds : (t : ℕ) → alternatives-end-lts.Need-loop-holds (plain-rows-reads.Asked, plain-rows-reads.Learnt, type-end-below t, type-end.Post) (alternatives-end-at t) alternatives-end.Post alternatives-end-Inv-loop alternatives-end-μ-loop
+alternatives-end-loop-holds t c = search rows-start
+
+-- src/types.rt:81:13
+alternatives-end-returns : (t : ℕ) → alternatives-end-lts.Need-returns (plain-rows-reads.Asked, plain-rows-reads.Learnt, type-end-below t, type-end.Post) (alternatives-end-at t) alternatives-end.Post alternatives-end-Inv-loop alternatives-end-μ-loop
 alternatives-end-returns t c = search alts-out
 
-alternatives-end-add-type-end : (t : ℕ) → alternatives-end-lts.Need-add-type-end (type-end-below t, type-end.Post) (alternatives-end-at t) alternatives-end.Post alternatives-end-Inv-loop alternatives-end-μ-loop
+-- src/types.rt:83:30
+alternatives-end-add-type-end : (t : ℕ) → alternatives-end-lts.Need-add-type-end (plain-rows-reads.Asked, plain-rows-reads.Learnt, type-end-below t, type-end.Post) (alternatives-end-at t) alternatives-end.Post alternatives-end-Inv-loop alternatives-end-μ-loop
 alternatives-end-add-type-end t c = search needs
 
-alternatives-end-type-end-requires : (t : ℕ) → alternatives-end-lts.Need-type-end-requires (type-end-below t, type-end.Post) (alternatives-end-at t) alternatives-end.Post alternatives-end-Inv-loop alternatives-end-μ-loop
+-- src/types.rt:83:9
+alternatives-end-type-end-requires : (t : ℕ) → alternatives-end-lts.Need-type-end-requires (plain-rows-reads.Asked, plain-rows-reads.Learnt, type-end-below t, type-end.Post) (alternatives-end-at t) alternatives-end.Post alternatives-end-Inv-loop alternatives-end-μ-loop
 alternatives-end-type-end-requires t c κs = (omega arith, tt)
 
-alternatives-end-returns-2 : (t : ℕ) → alternatives-end-lts.Need-returns-2 (type-end-below t, type-end.Post) (alternatives-end-at t) alternatives-end.Post alternatives-end-Inv-loop alternatives-end-μ-loop
+-- src/types.rt:85:13
+alternatives-end-returns-2 : (t : ℕ) → alternatives-end-lts.Need-returns-2 (plain-rows-reads.Asked, plain-rows-reads.Learnt, type-end-below t, type-end.Post) (alternatives-end-at t) alternatives-end.Post alternatives-end-Inv-loop alternatives-end-μ-loop
 alternatives-end-returns-2 t c = search alts-fail
 
-alternatives-end-sub-left : (t : ℕ) → alternatives-end-lts.Need-sub-left (type-end-below t, type-end.Post) (alternatives-end-at t) alternatives-end.Post alternatives-end-Inv-loop alternatives-end-μ-loop
-alternatives-end-sub-left t c = search needs
+-- src/types.rt:87:9
+alternatives-end-sub-left-2 : (t : ℕ) → alternatives-end-lts.Need-sub-left-2 (plain-rows-reads.Asked, plain-rows-reads.Learnt, type-end-below t, type-end.Post) (alternatives-end-at t) alternatives-end.Post alternatives-end-Inv-loop alternatives-end-μ-loop
+alternatives-end-sub-left-2 t c = search needs
 
-alternatives-end-loop-less : (t : ℕ) → alternatives-end-lts.Need-loop-less (type-end-below t, type-end.Post) (alternatives-end-at t) alternatives-end.Post alternatives-end-Inv-loop alternatives-end-μ-loop
+-- src/types.rt:79:5
+alternatives-end-loop-less : (t : ℕ) → alternatives-end-lts.Need-loop-less (plain-rows-reads.Asked, plain-rows-reads.Learnt, type-end-below t, type-end.Post) (alternatives-end-at t) alternatives-end.Post alternatives-end-Inv-loop alternatives-end-μ-loop
 alternatives-end-loop-less t c = search needs
 
-alternatives-end-loop-again : (t : ℕ) → alternatives-end-lts.Need-loop-again (type-end-below t, type-end.Post) (alternatives-end-at t) alternatives-end.Post alternatives-end-Inv-loop alternatives-end-μ-loop
+-- src/types.rt:79:5
+alternatives-end-loop-again : (t : ℕ) → alternatives-end-lts.Need-loop-again (plain-rows-reads.Asked, plain-rows-reads.Learnt, type-end-below t, type-end.Post) (alternatives-end-at t) alternatives-end.Post alternatives-end-Inv-loop alternatives-end-μ-loop
 alternatives-end-loop-again t c = search alts-go
 
-alternatives-end-returns-3 : (t : ℕ) → alternatives-end-lts.Need-returns-3 (type-end-below t, type-end.Post) (alternatives-end-at t) alternatives-end.Post alternatives-end-Inv-loop alternatives-end-μ-loop
+-- src/types.rt:72:1
+alternatives-end-returns-3 : (t : ℕ) → alternatives-end-lts.Need-returns-3 (plain-rows-reads.Asked, plain-rows-reads.Learnt, type-end-below t, type-end.Post) (alternatives-end-at t) alternatives-end.Post alternatives-end-Inv-loop alternatives-end-μ-loop
 alternatives-end-returns-3 t c = search alts-done
 
 abbrev fields-end-Inv-loop : fields-end-lts.InvT-loop
@@ -108,6 +138,7 @@ fields-end-Inv-loop ty at count groups left₀ place₀ left place = Fields ty a
 abbrev fields-end-μ-loop : fields-end-lts.MeasureT-loop
 fields-end-μ-loop ty at count groups left₀ place₀ left place = left
 
+-- src/types.rt:61:5
 fields-end-loop-holds :
     (t : ℕ) →
     fields-end-lts.Need-loop-holds
@@ -118,9 +149,11 @@ fields-end-loop-holds :
     fields-end-μ-loop
 fields-end-loop-holds t c = search fields-start
 
+-- src/types.rt:62:9
 fields-end-type-end-requires : (t : ℕ) → fields-end-lts.Need-type-end-requires (type-end-below t, type-end.Post) (fields-end-at t) fields-end.Post fields-end-Inv-loop fields-end-μ-loop
 fields-end-type-end-requires t c κs = (omega arith, tt)
 
+-- src/types.rt:64:13
 fields-end-returns :
     (t : ℕ) →
     fields-end-lts.Need-returns
@@ -131,6 +164,7 @@ fields-end-returns :
     fields-end-μ-loop
 fields-end-returns t c = search fields-fail
 
+-- src/types.rt:66:9
 fields-end-sub-left :
     (t : ℕ) →
     fields-end-lts.Need-sub-left
@@ -141,6 +175,7 @@ fields-end-sub-left :
     fields-end-μ-loop
 fields-end-sub-left t c = search needs
 
+-- src/types.rt:61:5
 fields-end-loop-less :
     (t : ℕ) →
     fields-end-lts.Need-loop-less
@@ -151,6 +186,7 @@ fields-end-loop-less :
     fields-end-μ-loop
 fields-end-loop-less t c = search needs
 
+-- src/types.rt:61:5
 fields-end-loop-again :
     (t : ℕ) →
     fields-end-lts.Need-loop-again
@@ -161,6 +197,7 @@ fields-end-loop-again :
     fields-end-μ-loop
 fields-end-loop-again t c = search fields-go
 
+-- src/types.rt:55:1
 fields-end-returns-2 :
     (t : ℕ) →
     fields-end-lts.Need-returns-2
@@ -171,100 +208,127 @@ fields-end-returns-2 :
     fields-end-μ-loop
 fields-end-returns-2 t c = search fields-done
 
+-- src/types.rt:41:9
 group-end-returns : (t : ℕ) → group-end-lts.Need-returns (fields-end-below t, fields-end.Post, alternatives-end-below t, alternatives-end.Post) (group-end-at t) group-end.Post
 group-end-returns t c = search too-deep
 
+-- src/types.rt:43:16
 group-end-mul-kind : (t : ℕ) → group-end-lts.Need-mul-kind (fields-end-below t, fields-end.Post, alternatives-end-below t, alternatives-end.Post) (group-end-at t) group-end.Post
 group-end-mul-kind t c = search needs
 
+-- src/types.rt:43:16
 group-end-shared-slice-read-kind : (t : ℕ) → group-end-lts.Need-shared-slice-read-kind (fields-end-below t, fields-end.Post, alternatives-end-below t, alternatives-end.Post) (group-end-at t) group-end.Post
 group-end-shared-slice-read-kind t c = search needs
 
+-- src/types.rt:44:20
 group-end-add-count : (t : ℕ) → group-end-lts.Need-add-count (fields-end-below t, fields-end.Post, alternatives-end-below t, alternatives-end.Post) (group-end-at t) group-end.Post
 group-end-add-count t c = search needs
 
+-- src/types.rt:44:17
 group-end-mul-count : (t : ℕ) → group-end-lts.Need-mul-count (fields-end-below t, fields-end.Post, alternatives-end-below t, alternatives-end.Post) (group-end-at t) group-end.Post
 group-end-mul-count t c = search needs
 
+-- src/types.rt:44:17
 group-end-shared-slice-read-count : (t : ℕ) → group-end-lts.Need-shared-slice-read-count (fields-end-below t, fields-end.Post, alternatives-end-below t, alternatives-end.Post) (group-end-at t) group-end.Post
 group-end-shared-slice-read-count t c = search needs
 
+-- src/types.rt:46:31
 group-end-add-fields-end : (t : ℕ) → group-end-lts.Need-add-fields-end (fields-end-below t, fields-end.Post, alternatives-end-below t, alternatives-end.Post) (group-end-at t) group-end.Post
 group-end-add-fields-end t c = search needs
 
+-- src/types.rt:46:46
 group-end-sub-fields-end : (t : ℕ) → group-end-lts.Need-sub-fields-end (fields-end-below t, fields-end.Post, alternatives-end-below t, alternatives-end.Post) (group-end-at t) group-end.Post
 group-end-sub-fields-end t c = search needs
 
+-- src/types.rt:46:9
 group-end-fields-end-requires : (t : ℕ) → group-end-lts.Need-fields-end-requires (fields-end-below t, fields-end.Post, alternatives-end-below t, alternatives-end.Post) (group-end-at t) group-end.Post
 group-end-fields-end-requires t c κs = (omega arith, omega arith)
 
+-- src/types.rt:46:9
 group-end-returns-2 : (t : ℕ) → group-end-lts.Need-returns-2 (fields-end-below t, fields-end.Post, alternatives-end-below t, alternatives-end.Post) (group-end-at t) group-end.Post
 group-end-returns-2 t c = search record-end
 
+-- src/types.rt:49:37
 group-end-add-alternatives-end : (t : ℕ) → group-end-lts.Need-add-alternatives-end (fields-end-below t, fields-end.Post, alternatives-end-below t, alternatives-end.Post) (group-end-at t) group-end.Post
 group-end-add-alternatives-end t c = search needs
 
+-- src/types.rt:49:52
 group-end-sub-alternatives-end : (t : ℕ) → group-end-lts.Need-sub-alternatives-end (fields-end-below t, fields-end.Post, alternatives-end-below t, alternatives-end.Post) (group-end-at t) group-end.Post
 group-end-sub-alternatives-end t c = search needs
 
+-- src/types.rt:49:9
 group-end-alternatives-end-requires : (t : ℕ) → group-end-lts.Need-alternatives-end-requires (fields-end-below t, fields-end.Post, alternatives-end-below t, alternatives-end.Post) (group-end-at t) group-end.Post
 group-end-alternatives-end-requires t c κs = (omega arith, omega arith)
 
+-- src/types.rt:49:9
 group-end-returns-3 : (t : ℕ) → group-end-lts.Need-returns-3 (fields-end-below t, fields-end.Post, alternatives-end-below t, alternatives-end.Post) (group-end-at t) group-end.Post
 group-end-returns-3 t c = search union-end
 
+-- src/types.rt:36:1
 group-end-returns-4 : (t : ℕ) → group-end-lts.Need-returns-4 (fields-end-below t, fields-end.Post, alternatives-end-below t, alternatives-end.Post) (group-end-at t) group-end.Post
 group-end-returns-4 t c = search unknown
 
+-- src/types.rt:17:9
 type-end-returns :
     (t : ℕ) →
     type-end-lts.Need-returns (group-end-below t, group-end.Post) (type-end-at t) type-end.Post
 type-end-returns t c = search none-left
 
+-- src/types.rt:19:16
 type-end-mul-kind :
     (t : ℕ) →
     type-end-lts.Need-mul-kind (group-end-below t, group-end.Post) (type-end-at t) type-end.Post
 type-end-mul-kind t c = search needs
 
+-- src/types.rt:19:16
 type-end-shared-slice-read-kind : (t : ℕ) → type-end-lts.Need-shared-slice-read-kind (group-end-below t, group-end.Post) (type-end-at t) type-end.Post
 type-end-shared-slice-read-kind t c = search needs
 
+-- src/types.rt:21:9
 type-end-returns-2 :
     (t : ℕ) →
     type-end-lts.Need-returns-2 (group-end-below t, group-end.Post) (type-end-at t) type-end.Post
 type-end-returns-2 t c = search zero-kind
 
+-- src/types.rt:24:16
 type-end-add-result :
     (t : ℕ) →
     type-end-lts.Need-add-result (group-end-below t, group-end.Post) (type-end-at t) type-end.Post
 type-end-add-result t c = search needs
 
+-- src/types.rt:24:9
 type-end-returns-3 :
     (t : ℕ) →
     type-end-lts.Need-returns-3 (group-end-below t, group-end.Post) (type-end-at t) type-end.Post
 type-end-returns-3 t c = search scalar
 
+-- src/types.rt:26:8
 type-end-sub-if4 :
     (t : ℕ) →
     type-end-lts.Need-sub-if4 (group-end-below t, group-end.Post) (type-end-at t) type-end.Post
 type-end-sub-if4 t c = search needs
 
+-- src/types.rt:27:9
 type-end-returns-4 :
     (t : ℕ) →
     type-end-lts.Need-returns-4 (group-end-below t, group-end.Post) (type-end-at t) type-end.Post
 type-end-returns-4 t c = search short
 
+-- src/types.rt:30:16
 type-end-add-result-2 : (t : ℕ) → type-end-lts.Need-add-result-2 (group-end-below t, group-end.Post) (type-end-at t) type-end.Post
 type-end-add-result-2 t c = search needs
 
+-- src/types.rt:30:9
 type-end-returns-5 :
     (t : ℕ) →
     type-end-lts.Need-returns-5 (group-end-below t, group-end.Post) (type-end-at t) type-end.Post
 type-end-returns-5 t c = search reference
 
+-- src/types.rt:32:5
 type-end-group-end-requires : (t : ℕ) → type-end-lts.Need-group-end-requires (group-end-below t, group-end.Post) (type-end-at t) type-end.Post
 type-end-group-end-requires t c κs = (omega arith, (omega arith, omega arith))
 
+-- src/types.rt:13:1
 type-end-returns-6 :
     (t : ℕ) →
     type-end-lts.Need-returns-6 (group-end-below t, group-end.Post) (type-end-at t) type-end.Post
@@ -273,6 +337,8 @@ type-end-returns-6 t c = search needs
 pub +alternatives-end+fields-end+group-end+type-end-spec : {M : Type 1} → statement M
 +alternatives-end+fields-end+group-end+type-end-spec =
     close μ-alternatives-end μ-fields-end μ-group-end μ-type-end (λ t. alternatives-end-lts.spec (
+      plain-rows-reads.Asked,
+      plain-rows-reads.Learnt,
       type-end-below t,
       type-end.Post,
     )
@@ -280,12 +346,17 @@ pub +alternatives-end+fields-end+group-end+type-end-spec : {M : Type 1} → stat
     alternatives-end.Post
     alternatives-end-Inv-loop
     alternatives-end-μ-loop
+    (alternatives-end-plain-rows-requires t)
+    (alternatives-end-sub-left t)
+    (alternatives-end-cast-place t)
+    (alternatives-end-mul-place t)
+    (alternatives-end-add-place t)
     (alternatives-end-loop-holds t)
     (alternatives-end-returns t)
     (alternatives-end-add-type-end t)
     (alternatives-end-type-end-requires t)
     (alternatives-end-returns-2 t)
-    (alternatives-end-sub-left t)
+    (alternatives-end-sub-left-2 t)
     (alternatives-end-loop-less t)
     (alternatives-end-loop-again t)
     (alternatives-end-returns-3 t))
