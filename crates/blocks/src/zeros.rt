@@ -38,7 +38,7 @@ fn past_clear(s: &[u8], from: usize, k: usize) -> usize
 }
 
 // The place of the first zero from a place on, or the length. Wide blocks first, then narrow ones, then bytes.
-pub fn zero_from(s: &[u8], from: usize) -> usize
+fn find_zero(s: &[u8], from: usize) -> usize
     requires { ⌜ from ≤ length (now s) ⌝ }
     ensures { λ r. ⌜ ZeroFrom (now (s .entry)) from r ⌝ }
 {
@@ -81,4 +81,18 @@ pub fn count_zeros(s: &[u8]) -> usize
     }
     let e = s.len();
     n + few_zeros(s, i, e) as usize
+}
+
+// The place of the first zero from a place on, or the end. Where zeros are dense it is the first byte.
+pub fn zero_from(s: &[u8], from: usize) -> usize
+    requires { ⌜ from ≤ length (now s) ⌝ }
+    ensures { λ r. ⌜ ZeroFrom (now (s .entry)) from r ⌝ }
+{
+    if s.len() <= from {
+        return from;
+    }
+    if s[from] == 0 {
+        return from;
+    }
+    find_zero(s, from)
 }

@@ -88,7 +88,7 @@ fn put_payload(bytes: &[u8], i: usize, end: usize, len: usize, pool: &mut [u8], 
     ensures { λ _. ⌜ Stored (now (pool .entry)) p (payloadAt (now (bytes .entry)) i end) (now (pool .exit)) ⌝ }
 {
     if p + len <= pool.len() {
-        scalar::runs::unescape_into(&bytes[i..end], pool, p);
+        scalar::runs::payload_into(&bytes[i..end], pool, p, len);
     }
 }
 

@@ -107,6 +107,18 @@ pub fn unescape_into(run: &[u8], dst: &mut [u8], at: usize) -> usize
     o
 }
 
+// The same where the payload's length is known: without an escape the run is its own payload.
+pub fn payload_into(run: &[u8], dst: &mut [u8], at: usize, n: usize)
+    requires { ⌜ (n ≡ length (unescape (now run))) × (at + n ≤ length (now dst)) ⌝ }
+    ensures { λ _. ⌜ now (dst .exit) ≡ put (now (dst .entry)) at (unescape (now (run .entry))) ⌝ }
+{
+    if n == run.len() {
+        blocks::copy_to(dst, at, run, 0, n);
+    } else {
+        unescape_into(run, dst, at);
+    }
+}
+
 // Is the payload of a run's bytes text? It is judged piece by piece between its zeros, and not written.
 pub fn run_is_text(run: &[u8]) -> bool
     ensures { λ r. ⌜ r ≡ utf8 (unescape (now (run .entry))) ⌝ }

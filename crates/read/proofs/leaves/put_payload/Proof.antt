@@ -6,27 +6,27 @@ use Rattle.read.proofs.leaves.put_payload.Statement.{statement}
 use Rattle.read.proofs.leaves.put_payload.Tie as tie
 use Rattle.read.proofs.leaves.put_payload.Reads as reads
 use Rattle.read.proofs.leaves.put_payload.Lts as lts
-use Rattle.scalar.proofs.runs.unescape_into.Reads as unescape-into-reads
+use Rattle.scalar.proofs.runs.payload_into.Reads as payload-into-reads
 
 -- src/leaves.rt:82:8
 add-if1 : tie.Need-add-if1
 add-if1 c = search needs
 
 -- src/leaves.rt:83:37
-sub-unescape-into : tie.Need-sub-unescape-into
-sub-unescape-into c = search needs
+sub-payload-into : tie.Need-sub-payload-into
+sub-payload-into c = search needs
 
 -- src/leaves.rt:83:37
-part-unescape-into-start : tie.Need-part-unescape-into-start
-part-unescape-into-start c = search needs
+part-payload-into-start : tie.Need-part-payload-into-start
+part-payload-into-start c = search needs
 
 -- src/leaves.rt:83:37
-part-unescape-into-end : tie.Need-part-unescape-into-end
-part-unescape-into-end c = search needs
+part-payload-into-end : tie.Need-part-payload-into-end
+part-payload-into-end c = search needs
 
 -- src/leaves.rt:83:9
-unescape-into-requires : tie.Need-unescape-into-requires
-unescape-into-requires c κs = search needs
+payload-into-requires : tie.Need-payload-into-requires
+payload-into-requires c κs = search needs
 
 -- src/leaves.rt:78:1
 same-length : tie.Need-same-length
@@ -34,7 +34,7 @@ same-length c = search needs
 
 -- src/leaves.rt:78:1
 returns : tie.Need-returns
-returns c = stores.put-stored _ _ _ _ (c .before .before .unescape-into .ensures .1)
+returns c = stores.put-stored _ _ _ _ (c .before .before .payload-into .ensures)
 
 -- src/leaves.rt:78:1
 returns-2 : tie.Need-returns-2
@@ -45,10 +45,10 @@ put-payload-spec =
     tie.close
     (tie.spec
     add-if1
-    sub-unescape-into
-    part-unescape-into-start
-    part-unescape-into-end
-    unescape-into-requires
+    sub-payload-into
+    part-payload-into-start
+    part-payload-into-end
+    payload-into-requires
     same-length
     returns
     returns-2)

@@ -1,4 +1,4 @@
--- `zero_from` meets its contract.
+-- `find_zero` meets its contract.
 use borrow.Author.Needs.{needs}
 use mathlib.Core.Path.{_≡_}
 use Prim.Native.Nat.{_-_, _≤_}
@@ -6,8 +6,8 @@ use native.Mathlib.Omega.{arith}
 use lib.ListN.{length, getD}
 use Rattle.blocks.specs.Zeros.{NoZero}
 use Rattle.blocks.proofs.Spans.{span-one, span-join}
-use Rattle.blocks.proofs.zeros.zero_from.Statement.{statement}
-use Rattle.blocks.proofs.zeros.zero_from.Tie as tie
+use Rattle.blocks.proofs.zeros.find_zero.Statement.{statement}
+use Rattle.blocks.proofs.zeros.find_zero.Tie as tie
 
 abbrev Inv-loop : tie.InvT-loop
 Inv-loop s from wide i₀ i = (from ≤ i) × (i ≤ length s) × NoZero s from i
@@ -42,8 +42,8 @@ loop-again c = (omega arith, omega arith, span-one (λ k. getD (c .before .befor
 returns-2 : tie.Need-returns-2 Inv-loop μ-loop
 returns-2 c = record { after = c .before .loop .inv .0; inside = c .before .loop .inv .1; none = c .before .loop .inv .2; zero = λ h. absurd (omega arith) }
 
-pub zero-from-spec : {M : Type 1} → statement M
-zero-from-spec =
+pub find-zero-spec : {M : Type 1} → statement M
+find-zero-spec =
     tie.close
     (tie.spec
     Inv-loop
