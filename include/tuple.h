@@ -2,7 +2,7 @@
  *
  * A slice is a pointer and a length in elements; an empty one may have any pointer. A buffer that is written must not overlap another slice of its call.
  * Every call is total: it answers, or refuses with a number and a detail. An accepted answer has refusal 0 and detail 0. A refused one has 0 in every field
- * but refusal, detail and the values begun, and then no byte of a lent buffer has changed. An accepted call leaves what it does not write as it was.
+ * but refusal, detail, the values begun and a cursor or reader, and then no byte of a lent buffer has changed. An accepted call leaves what it does not write as it was.
  * No call allocates, or keeps anything for the next.
  *
  * A type sheet is a list of words, outermost first: 1 Int; 2 Str; 3 Bytes; 4 P, a reference to predicate P; 5 n and n types, a record; 6 n and n pairs of a
@@ -59,6 +59,12 @@ typedef struct { uint32_t refusal; uint64_t detail; int32_t order; } tuple_order
 typedef struct { uint32_t refusal; uint64_t detail; uint64_t value; uint64_t used; } tuple_number;
 /* where a payload is, its length and how many bytes its field took; source 1: the bytes from `at` on; 2: the scratch buffer's beginning; 0: nowhere */
 typedef struct { uint32_t refusal; uint64_t detail; uint32_t source; uint64_t at; uint64_t len; uint64_t used; } tuple_part;
+/* a value (0 where the step has none), and the cursor behind it; where refused, the cursor given */
+typedef struct { uint32_t refusal; uint64_t detail; uint64_t value; uint64_t at; uint64_t depth; } tuple_step;
+/* where a payload is, its length, and the cursor behind its field; source 1: the bytes from `part` on; 2: the scratch buffer's beginning; 0: nowhere */
+typedef struct { uint32_t refusal; uint64_t detail; uint32_t source; uint64_t part; uint64_t len; uint64_t at; uint64_t depth; } tuple_part_step;
+/* given 1: the character `code`; given 0 without a refusal: the end; and the reader's place and flag after the step */
+typedef struct { uint32_t refusal; uint64_t detail; uint32_t given; uint32_t code; uint64_t at; bool done; } tuple_char;
 
 TUPLE_ASSERT(sizeof(tuple_length) == 24 && offsetof(tuple_length, detail) == 8 && offsetof(tuple_length, length) == 16, "tuple_length");
 TUPLE_ASSERT(sizeof(tuple_sheet) == 40 && offsetof(tuple_sheet, begun) == 16 && offsetof(tuple_sheet, words) == 24 && offsetof(tuple_sheet, pool) == 32, "tuple_sheet");
@@ -66,6 +72,9 @@ TUPLE_ASSERT(sizeof(tuple_ends) == 32 && offsetof(tuple_ends, lower) == 16 && of
 TUPLE_ASSERT(sizeof(tuple_order) == 24 && offsetof(tuple_order, order) == 16, "tuple_order");
 TUPLE_ASSERT(sizeof(tuple_number) == 32 && offsetof(tuple_number, value) == 16 && offsetof(tuple_number, used) == 24, "tuple_number");
 TUPLE_ASSERT(sizeof(tuple_part) == 48 && offsetof(tuple_part, source) == 16 && offsetof(tuple_part, at) == 24 && offsetof(tuple_part, len) == 32 && offsetof(tuple_part, used) == 40, "tuple_part");
+TUPLE_ASSERT(sizeof(tuple_step) == 40 && offsetof(tuple_step, value) == 16 && offsetof(tuple_step, at) == 24 && offsetof(tuple_step, depth) == 32, "tuple_step");
+TUPLE_ASSERT(sizeof(tuple_part_step) == 56 && offsetof(tuple_part_step, source) == 16 && offsetof(tuple_part_step, part) == 24 && offsetof(tuple_part_step, len) == 32 && offsetof(tuple_part_step, at) == 40 && offsetof(tuple_part_step, depth) == 48, "tuple_part_step");
+TUPLE_ASSERT(sizeof(tuple_char) == 40 && offsetof(tuple_char, given) == 16 && offsetof(tuple_char, code) == 20 && offsetof(tuple_char, at) == 24 && offsetof(tuple_char, done) == 32, "tuple_char");
 TUPLE_ASSERT(sizeof(size_t) == 8 && sizeof(bool) == 1, "the library is for x86-64");
 
 /* ---- encoding: a value under a type, at the output buffer's beginning. length: the bytes written.
@@ -117,6 +126,49 @@ tuple_length tuple_put_u64(uint8_t *out, size_t out_len, size_t at, uint64_t num
 tuple_length tuple_put_str(uint8_t *out, size_t out_len, size_t at, const uint8_t *text, size_t text_len);
 tuple_length tuple_put_bytes(uint8_t *out, size_t out_len, size_t at, const uint8_t *payload, size_t payload_len);
 tuple_length tuple_put_fact_id(uint8_t *out, size_t out_len, size_t at, uint64_t raw);
+
+/* ---- the reading cursor: a place in the bytes and the number of open groups, both held by the caller; it starts at place 0 and depth 0.
+ * After a refusal place and depth are those given. A place past the end reads as no bytes left, a depth over 256 as 256. */
+
+/* a null: 00 at depth 0, 00 FF in a group; refusals 1, 2, 3. value 0 */
+tuple_step tuple_take_null(const uint8_t *bytes, size_t bytes_len, size_t at, size_t depth);
+/* an Int as its word; refusals of tuple_get_i64 */
+tuple_step tuple_take_i64(const uint8_t *bytes, size_t bytes_len, size_t at, size_t depth);
+/* refusals of tuple_get_u64 */
+tuple_step tuple_take_u64(const uint8_t *bytes, size_t bytes_len, size_t at, size_t depth);
+/* a reference to any predicate; refusals 1, 2, 9 */
+tuple_step tuple_take_fact_id(const uint8_t *bytes, size_t bytes_len, size_t at, size_t depth);
+/* the payload of a Str; refusals and scratch buffer as of tuple_get_str */
+tuple_part_step tuple_take_str(const uint8_t *bytes, size_t bytes_len, size_t at, size_t depth, uint8_t *scratch, size_t scratch_len);
+/* the payload of a Bytes; refusals and scratch buffer as of tuple_get_bytes */
+tuple_part_step tuple_take_bytes(const uint8_t *bytes, size_t bytes_len, size_t at, size_t depth, uint8_t *scratch, size_t scratch_len);
+/* a record's mark, one group deeper; refusals 1, 2, then 6 at depth 256. value 0 */
+tuple_step tuple_open_record(const uint8_t *bytes, size_t bytes_len, size_t at, size_t depth);
+/* a union's mark and its discriminant, one group deeper. value: the discriminant, any 64-bit number; refusals 1, 2, 5, then 6 at depth 256 */
+tuple_step tuple_open_union(const uint8_t *bytes, size_t bytes_len, size_t at, size_t depth);
+/* the end of the open group, one group less deep; refusals 6 at depth 0, whatever byte stands there, then 1, 2. value 0 */
+tuple_step tuple_close(const uint8_t *bytes, size_t bytes_len, size_t at, size_t depth);
+/* value 1: the open group ends here; at depth 0 none is open: value 0. used 0; refusal 1 */
+tuple_number tuple_is_record_end(const uint8_t *bytes, size_t bytes_len, size_t at, size_t depth);
+
+/* ---- the writing cursor: a place in the buffer and the number of open groups; otherwise as above. value 0. Refusal 17 counts from the buffer's start and comes
+ * last; a place past the buffer is 17 with that place. The other fields are tuple_put_i64 to tuple_put_fact_id, which keep the depth. */
+
+/* 00 at depth 0, 00 FF in a group */
+tuple_step tuple_put_null(uint8_t *out, size_t out_len, size_t at, size_t depth);
+/* opens a record; refusal 6 at depth 256 */
+tuple_step tuple_put_record(uint8_t *out, size_t out_len, size_t at, size_t depth);
+/* opens a union; refusal 6 at depth 256 */
+tuple_step tuple_put_union(uint8_t *out, size_t out_len, size_t at, size_t depth, uint32_t disc);
+/* ends the open group; refusal 6 at depth 0 */
+tuple_step tuple_put_end(uint8_t *out, size_t out_len, size_t at, size_t depth);
+
+/* ---- the string reader: a Str's characters one by one, its bytes, place and finished flag held by the caller */
+
+/* checks a Str's mark: the reader's bytes are those behind it, its first place is 0, and it is not finished. length 0; refusals 1, 2 */
+tuple_length tuple_str_chars(const uint8_t *bytes, size_t bytes_len);
+/* the next character; the end and a refusal (1, 4) leave the place and finish the reader, and a finished one gives only the end */
+tuple_char tuple_chars_next(const uint8_t *bytes, size_t bytes_len, size_t at, bool done);
 
 #undef TUPLE_ASSERT
 #ifdef __cplusplus

@@ -12,5 +12,5 @@ export TUPLE_LIB
 shift
 cd "$(dirname "$0")/.."
 cargo build --release --offline -q -p differential --bin differential --no-default-features \
-    --features "${TUPLE_PARTS:-scalars,encode,decode,skip,order,keys}"
+    --features "${TUPLE_PARTS:-scalars,encode,decode,skip,order,keys,cursors,chars}"
 exec target/release/differential "$@"

@@ -1,3 +1,4 @@
 -- Laws of the exported calls.
 pub mod Laws
 pub mod Refusals
+pub mod StepLaws

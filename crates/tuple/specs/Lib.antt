@@ -1,2 +1,3 @@
 -- The numbers of each answer, and what the exported calls promise.
 pub mod Numbers
+pub mod StepNumbers

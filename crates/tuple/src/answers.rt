@@ -76,7 +76,7 @@ pub struct Part {
     pub used: u64,
 }
 
-fn to_length(n: usize) -> Length
+pub fn to_length(n: usize) -> Length
     ensures { λ r. ⌜ r ≡ lengthOf (ok n) ⌝ }
 {
     Length {
@@ -86,7 +86,7 @@ fn to_length(n: usize) -> Length
     }
 }
 
-fn no_length(no: u32, detail: u64) -> Length
+pub fn no_length(no: u32, detail: u64) -> Length
     ensures { λ r. ⌜ r ≡ lengthOf (refused no detail) ⌝ }
 {
     Length {
@@ -193,7 +193,7 @@ fn to_number(value: u64, used: usize) -> Number
     }
 }
 
-fn no_number(no: u32, detail: u64) -> Number
+pub fn no_number(no: u32, detail: u64) -> Number
     ensures { λ r. ⌜ r ≡ numberOf (refused no detail) ⌝ }
 {
     Number {

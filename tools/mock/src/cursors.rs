@@ -1,4 +1,4 @@
-//! The cursors' steps and the string reader, as cursors.h declares them.
+//! The cursors' steps and the string reader, as include/tuple.h declares them.
 
 use crate::faults::{Fault, has};
 use crate::fields::{Number, bytes_of, place, put};

@@ -15,7 +15,7 @@ const USAGE: &str = "usage: fixed-list [--seed N] [--inputs N] [--per N] [--part
   --seed    of the random families (1)
   --inputs  how many inputs of each family to choose from (4000)
   --per     the most lines for a call and a refusal; twice as many where the call is accepted (24)
-  --parts   the library's parts whose calls to list (scalars,encode,decode,skip,order,keys)
+  --parts   the library's parts whose calls to list (scalars,encode,decode,skip,order,keys,cursors,chars)
   --large   only the lines whose lists are longer than a plain list may have";
 
 /// No line of the list is longer.
@@ -38,7 +38,7 @@ struct Options {
 }
 
 fn options() -> Option<Options> {
-    let parts = ["scalars", "encode", "decode", "skip", "order", "keys"].map(String::from).to_vec();
+    let parts = ["scalars", "encode", "decode", "skip", "order", "keys", "cursors", "chars"].map(String::from).to_vec();
     let mut options = Options { seed: 1, inputs: 4_000, per: 24, parts, large: false };
     let mut arguments = std::env::args().skip(1);
     while let Some(argument) = arguments.next() {

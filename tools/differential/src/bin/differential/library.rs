@@ -1,4 +1,4 @@
-//! The library's calls, as include/tuple.h declares them; cursors.h has those of the parts `cursors` and `chars`.
+//! The library's calls, as include/tuple.h declares them.
 
 /// bytes written, an end, a place or a used length
 #[repr(C)]
@@ -101,6 +101,10 @@ const _: () = assert!(
         && size_of::<Number>() == 32
         && size_of::<Part>() == 48
 );
+#[cfg(feature = "cursors")]
+const _: () = assert!(size_of::<Step>() == 40 && size_of::<PartStep>() == 56);
+#[cfg(feature = "chars")]
+const _: () = assert!(size_of::<Char>() == 40);
 
 #[cfg(feature = "encode")]
 #[rustfmt::skip]
