@@ -62,8 +62,48 @@ pub(crate) struct Part {
     pub(crate) used: u64,
 }
 
+/// a value (0 where the step has none), and the cursor behind it; where refused, the cursor given
+#[repr(C)]
+pub(crate) struct Step {
+    refusal: u32,
+    detail: u64,
+    pub(crate) value: u64,
+    pub(crate) at: u64,
+    pub(crate) depth: u64,
+}
+
+/// where a payload is (source 1: the bytes from `part` on; 2: the scratch buffer's beginning), its length, and the cursor behind its field
+#[repr(C)]
+pub(crate) struct PartStep {
+    refusal: u32,
+    detail: u64,
+    pub(crate) source: u32,
+    pub(crate) part: u64,
+    pub(crate) len: u64,
+    pub(crate) at: u64,
+    pub(crate) depth: u64,
+}
+
+/// given 1: the character `code`; given 0 without a refusal: the end; and the reader's place and flag after the step
+#[repr(C)]
+pub(crate) struct Char {
+    refusal: u32,
+    detail: u64,
+    pub(crate) given: u32,
+    pub(crate) code: u32,
+    pub(crate) at: u64,
+    pub(crate) done: bool,
+}
+
 // The same sizes and places as in include/tuple.h; a difference does not compile.
 const _: () = {
+    assert!(size_of::<Step>() == 40 && offset_of!(Step, detail) == 8 && offset_of!(Step, value) == 16);
+    assert!(offset_of!(Step, at) == 24 && offset_of!(Step, depth) == 32);
+    assert!(size_of::<PartStep>() == 56 && offset_of!(PartStep, detail) == 8 && offset_of!(PartStep, source) == 16);
+    assert!(offset_of!(PartStep, part) == 24 && offset_of!(PartStep, len) == 32);
+    assert!(offset_of!(PartStep, at) == 40 && offset_of!(PartStep, depth) == 48);
+    assert!(size_of::<Char>() == 40 && offset_of!(Char, detail) == 8 && offset_of!(Char, given) == 16);
+    assert!(offset_of!(Char, code) == 20 && offset_of!(Char, at) == 24 && offset_of!(Char, done) == 32);
     assert!(size_of::<Length>() == 24 && offset_of!(Length, detail) == 8 && offset_of!(Length, length) == 16);
     assert!(size_of::<Sheet>() == 40 && offset_of!(Sheet, detail) == 8 && offset_of!(Sheet, begun) == 16);
     assert!(offset_of!(Sheet, words) == 24 && offset_of!(Sheet, pool) == 32);
@@ -100,7 +140,7 @@ macro_rules! answers {
     )*};
 }
 
-answers!(Length, Sheet, Ends, Order, Number, Part);
+answers!(Length, Sheet, Ends, Order, Number, Part, Step, PartStep, Char);
 
 #[rustfmt::skip]
 unsafe extern "C" {
@@ -124,6 +164,22 @@ unsafe extern "C" {
     fn tuple_put_str(out: *mut u8, out_len: usize, at: usize, text: *const u8, text_len: usize) -> Length;
     fn tuple_put_bytes(out: *mut u8, out_len: usize, at: usize, payload: *const u8, payload_len: usize) -> Length;
     fn tuple_put_fact_id(out: *mut u8, out_len: usize, at: usize, raw: u64) -> Length;
+    fn tuple_take_null(bytes: *const u8, bytes_len: usize, at: usize, depth: usize) -> Step;
+    fn tuple_take_i64(bytes: *const u8, bytes_len: usize, at: usize, depth: usize) -> Step;
+    fn tuple_take_u64(bytes: *const u8, bytes_len: usize, at: usize, depth: usize) -> Step;
+    fn tuple_take_fact_id(bytes: *const u8, bytes_len: usize, at: usize, depth: usize) -> Step;
+    fn tuple_take_str(bytes: *const u8, bytes_len: usize, at: usize, depth: usize, scratch: *mut u8, scratch_len: usize) -> PartStep;
+    fn tuple_take_bytes(bytes: *const u8, bytes_len: usize, at: usize, depth: usize, scratch: *mut u8, scratch_len: usize) -> PartStep;
+    fn tuple_open_record(bytes: *const u8, bytes_len: usize, at: usize, depth: usize) -> Step;
+    fn tuple_open_union(bytes: *const u8, bytes_len: usize, at: usize, depth: usize) -> Step;
+    fn tuple_close(bytes: *const u8, bytes_len: usize, at: usize, depth: usize) -> Step;
+    fn tuple_is_record_end(bytes: *const u8, bytes_len: usize, at: usize, depth: usize) -> Number;
+    fn tuple_put_null(out: *mut u8, out_len: usize, at: usize, depth: usize) -> Step;
+    fn tuple_put_record(out: *mut u8, out_len: usize, at: usize, depth: usize) -> Step;
+    fn tuple_put_union(out: *mut u8, out_len: usize, at: usize, depth: usize, disc: u32) -> Step;
+    fn tuple_put_end(out: *mut u8, out_len: usize, at: usize, depth: usize) -> Step;
+    fn tuple_str_chars(bytes: *const u8, bytes_len: usize) -> Length;
+    fn tuple_chars_next(bytes: *const u8, bytes_len: usize, at: usize, done: bool) -> Char;
 }
 
 // What makes each call below safe is the same: the header asks for nothing but that a pointer and a length belong to one slice, that a slice which is
@@ -275,6 +331,88 @@ pub(crate) fn put_bytes(out: &mut [u8], at: usize, payload: &[u8]) -> Length {
 pub(crate) fn put_fact_id(out: &mut [u8], at: usize, raw: u64) -> Length {
     // SAFETY: the pointer and length are of one slice that lives through the call and is borrowed alone; any place is answered.
     unsafe { tuple_put_fact_id(out.as_mut_ptr(), out.len(), at, raw) }
+}
+
+pub(crate) fn take_null(bytes: &[u8], at: usize, depth: usize) -> Step {
+    // SAFETY: the pointer and length are of one slice that lives through the call; nothing is written; any place and depth are answered.
+    unsafe { tuple_take_null(bytes.as_ptr(), bytes.len(), at, depth) }
+}
+
+pub(crate) fn take_i64(bytes: &[u8], at: usize, depth: usize) -> Step {
+    // SAFETY: the pointer and length are of one slice that lives through the call; nothing is written; any place and depth are answered.
+    unsafe { tuple_take_i64(bytes.as_ptr(), bytes.len(), at, depth) }
+}
+
+pub(crate) fn take_u64(bytes: &[u8], at: usize, depth: usize) -> Step {
+    // SAFETY: the pointer and length are of one slice that lives through the call; nothing is written; any place and depth are answered.
+    unsafe { tuple_take_u64(bytes.as_ptr(), bytes.len(), at, depth) }
+}
+
+pub(crate) fn take_fact_id(bytes: &[u8], at: usize, depth: usize) -> Step {
+    // SAFETY: the pointer and length are of one slice that lives through the call; nothing is written; any place and depth are answered.
+    unsafe { tuple_take_fact_id(bytes.as_ptr(), bytes.len(), at, depth) }
+}
+
+pub(crate) fn open_record(bytes: &[u8], at: usize, depth: usize) -> Step {
+    // SAFETY: the pointer and length are of one slice that lives through the call; nothing is written; any place and depth are answered.
+    unsafe { tuple_open_record(bytes.as_ptr(), bytes.len(), at, depth) }
+}
+
+pub(crate) fn open_union(bytes: &[u8], at: usize, depth: usize) -> Step {
+    // SAFETY: the pointer and length are of one slice that lives through the call; nothing is written; any place and depth are answered.
+    unsafe { tuple_open_union(bytes.as_ptr(), bytes.len(), at, depth) }
+}
+
+pub(crate) fn close(bytes: &[u8], at: usize, depth: usize) -> Step {
+    // SAFETY: the pointer and length are of one slice that lives through the call; nothing is written; any place and depth are answered.
+    unsafe { tuple_close(bytes.as_ptr(), bytes.len(), at, depth) }
+}
+
+pub(crate) fn is_record_end(bytes: &[u8], at: usize, depth: usize) -> Number {
+    // SAFETY: the pointer and length are of one slice that lives through the call; nothing is written; any place and depth are answered.
+    unsafe { tuple_is_record_end(bytes.as_ptr(), bytes.len(), at, depth) }
+}
+
+pub(crate) fn take_str(bytes: &[u8], at: usize, depth: usize, scratch: &mut [u8]) -> PartStep {
+    // SAFETY: each pointer and length are of one slice that lives through the call; `scratch`, which is written, is borrowed alone; any place and depth
+    // are answered.
+    unsafe { tuple_take_str(bytes.as_ptr(), bytes.len(), at, depth, scratch.as_mut_ptr(), scratch.len()) }
+}
+
+pub(crate) fn take_bytes(bytes: &[u8], at: usize, depth: usize, scratch: &mut [u8]) -> PartStep {
+    // SAFETY: each pointer and length are of one slice that lives through the call; `scratch`, which is written, is borrowed alone; any place and depth
+    // are answered.
+    unsafe { tuple_take_bytes(bytes.as_ptr(), bytes.len(), at, depth, scratch.as_mut_ptr(), scratch.len()) }
+}
+
+pub(crate) fn put_null(out: &mut [u8], at: usize, depth: usize) -> Step {
+    // SAFETY: the pointer and length are of one slice that lives through the call and is borrowed alone; any place and depth are answered.
+    unsafe { tuple_put_null(out.as_mut_ptr(), out.len(), at, depth) }
+}
+
+pub(crate) fn put_record(out: &mut [u8], at: usize, depth: usize) -> Step {
+    // SAFETY: the pointer and length are of one slice that lives through the call and is borrowed alone; any place and depth are answered.
+    unsafe { tuple_put_record(out.as_mut_ptr(), out.len(), at, depth) }
+}
+
+pub(crate) fn put_end(out: &mut [u8], at: usize, depth: usize) -> Step {
+    // SAFETY: the pointer and length are of one slice that lives through the call and is borrowed alone; any place and depth are answered.
+    unsafe { tuple_put_end(out.as_mut_ptr(), out.len(), at, depth) }
+}
+
+pub(crate) fn put_union(out: &mut [u8], at: usize, depth: usize, disc: u32) -> Step {
+    // SAFETY: the pointer and length are of one slice that lives through the call and is borrowed alone; any place and depth are answered.
+    unsafe { tuple_put_union(out.as_mut_ptr(), out.len(), at, depth, disc) }
+}
+
+pub(crate) fn str_chars(bytes: &[u8]) -> Length {
+    // SAFETY: the pointer and length are of one slice that lives through the call; nothing is written.
+    unsafe { tuple_str_chars(bytes.as_ptr(), bytes.len()) }
+}
+
+pub(crate) fn chars_next(bytes: &[u8], at: usize, done: bool) -> Char {
+    // SAFETY: the pointer and length are of one slice that lives through the call; nothing is written; any place is answered.
+    unsafe { tuple_chars_next(bytes.as_ptr(), bytes.len(), at, done) }
 }
 
 /// The rows of the table of refusals that no `Type`, `Value` or growing buffer can bring about: sheets and rooms given by hand.

@@ -55,7 +55,7 @@ fn here() -> Vec<Call> {
 #[test]
 fn every_call() {
     let calls = declared();
-    assert!(calls.len() >= 20);
+    assert!(calls.len() >= 36);
     assert_eq!(here(), calls);
 }
 

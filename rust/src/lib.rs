@@ -40,6 +40,7 @@
 #[doc = include_str!("../README.md")]
 struct Readme;
 
+mod cursor;
 #[allow(unsafe_code)]
 mod ffi;
 mod field;
@@ -50,6 +51,7 @@ mod sheet;
 #[cfg(test)]
 mod header;
 
+pub use cursor::{StrChars, TupleDecoder, TupleEncoder, str_chars};
 pub use field::{get_bytes, get_i64, get_str, get_u64, put_bytes, put_fact_id, put_i64, put_str, put_u64};
 pub use refusal::Refusal;
 pub use sheet::{Alternative, FactId, Kind, PredicateId, Type, Value, ValueSheet};
