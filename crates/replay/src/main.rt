@@ -2,9 +2,11 @@
 // and every line that did not.
 mod answers;
 mod changing;
+mod cursors;
 mod decoding;
 mod encoding;
 mod ordering;
+mod reading;
 mod scalars;
 
 ghost use mathlib.Core.Path.{_≡_};
@@ -28,6 +30,28 @@ fn whole_call(call: usize, line: &[u8]) -> bool {
     }
 }
 
+fn step_call(call: usize, line: &[u8]) -> bool {
+    match call {
+        20 => cursors::step_line(line, 0),
+        21 => cursors::step_line(line, 1),
+        22 => cursors::step_line(line, 2),
+        23 => cursors::step_line(line, 3),
+        24 => cursors::step_line(line, 4),
+        25 => cursors::step_line(line, 5),
+        26 => cursors::step_line(line, 6),
+        27 => cursors::end_line(line),
+        28 => cursors::part_line(line, true),
+        29 => cursors::part_line(line, false),
+        30 => cursors::put_line(line, 0),
+        31 => cursors::put_line(line, 1),
+        32 => cursors::put_line(line, 2),
+        33 => cursors::union_line(line),
+        34 => reading::next_line(line),
+        35 => reading::chars_line(line),
+        _ => whole_call(call, line),
+    }
+}
+
 fn agrees(call: usize, line: &[u8]) -> bool {
     match call {
         11 => scalars::int_line(line, true),
@@ -39,7 +63,7 @@ fn agrees(call: usize, line: &[u8]) -> bool {
         17 => scalars::word_line(line, 2),
         18 => scalars::run_line(line, true),
         19 => scalars::run_line(line, false),
-        _ => whole_call(call, line),
+        _ => step_call(call, line),
     }
 }
 
@@ -87,9 +111,9 @@ fn list_room() -> [u8; 1048576]
 
 fn main() {
     let names =
-        b"encode_typed encode_key decode_typed decode_key check_key skip compare strinc above_field bounds replace get_i64 get_u64 get_str get_bytes put_i64 put_u64 put_fact_id put_str put_bytes";
+        b"encode_typed encode_key decode_typed decode_key check_key skip compare strinc above_field bounds replace get_i64 get_u64 get_str get_bytes put_i64 put_u64 put_fact_id put_str put_bytes take_null take_i64 take_u64 take_fact_id open_record open_union close is_record_end take_str take_bytes put_null put_record put_end put_union chars_next chars";
     let mut room = list_room();
-    let mut counts = [0u64; 20];
+    let mut counts = [0u64; 36];
     let n = io::read_full(0, &mut room);
     each(&room[..n], names, &mut counts);
     totals(names, &counts);
