@@ -38,6 +38,18 @@ static void part(const char *what, tuple_part a, uint64_t refusal, uint64_t deta
     same(what, (uint64_t[]){a.refusal, a.detail, a.source, a.at, a.len, a.used}, (uint64_t[]){refusal, detail, source, at, len, used}, 6);
 }
 
+static void step(const char *what, tuple_step a, uint64_t refusal, uint64_t detail, uint64_t value, uint64_t at, uint64_t depth) {
+    same(what, (uint64_t[]){a.refusal, a.detail, a.value, a.at, a.depth}, (uint64_t[]){refusal, detail, value, at, depth}, 5);
+}
+
+static void part_step(const char *what, tuple_part_step a, uint64_t refusal, uint64_t detail, uint64_t source, uint64_t part, uint64_t len, uint64_t at, uint64_t depth) {
+    same(what, (uint64_t[]){a.refusal, a.detail, a.source, a.part, a.len, a.at, a.depth}, (uint64_t[]){refusal, detail, source, part, len, at, depth}, 7);
+}
+
+static void character(const char *what, tuple_char a, uint64_t refusal, uint64_t given, uint64_t code, uint64_t at, bool done) {
+    same(what, (uint64_t[]){a.refusal, a.detail, a.given, a.code, a.at, a.done}, (uint64_t[]){refusal, 0, given, code, at, done}, 6);
+}
+
 int main(void) {
     /* tank keys: a tag and a number */
     const uint32_t tank[] = {5, 2, 3, 1};
@@ -93,6 +105,38 @@ int main(void) {
     length("put_bytes", tuple_put_bytes(out, 16, 3, tag, 2), 0, 0, 8);
     length("put_fact_id", tuple_put_fact_id(out, 16, 3, 1), 0, 0, 12);
     length("put_fact_id, past", tuple_put_fact_id(out, 16, 17, 1), TUPLE_NO_ROOM, 17, 0);
+
+    const uint8_t group[] = {0x22, 0x00, 0xFF, 0x49, 0x07, 0x52, 0x49, 0x09, 0x47, 0xF6, 0x00, 0x00};
+    const uint8_t reference[] = {0x00, 0x51, 0, 0, 0, 3, 0, 0, 0, 5};
+    const uint64_t deepest = UINT64_MAX;
+    step("open_record", tuple_open_record(group, 12, 0, 6), 0, 0, 0, 1, 7);
+    step("open_record, deepest", tuple_open_record(group, 12, 0, deepest), TUPLE_BAD_RECORD, 0, 0, 0, deepest);
+    step("take_null", tuple_take_null(group, 12, 1, 7), 0, 0, 0, 3, 7);
+    step("take_null, deep", tuple_take_null(group, 12, 1, deepest), 0, 0, 0, 3, 256);
+    step("take_null, an integer", tuple_take_null(group, 12, 3, 300), TUPLE_UNEXPECTED_MARK, 0x49, 0, 3, 300);
+    step("take_u64", tuple_take_u64(group, 12, 3, 1), 0, 0, 7, 5, 1);
+    step("open_union", tuple_open_union(group, 12, 5, 1), 0, 0, 9, 8, 2);
+    step("take_i64", tuple_take_i64(group, 12, 8, 2), 0, 0, 0xFFFFFFFFFFFFFFF7, 10, 2);
+    step("take_i64, past", tuple_take_i64(group, 12, 13, 2), TUPLE_UNEXPECTED_EOF, 0, 0, 13, 2);
+    step("take_fact_id", tuple_take_fact_id(reference, 10, 1, 4), 0, 0, 0x300000005, 10, 4);
+    number("is_record_end", tuple_is_record_end(group, 12, 10, 2), 0, 0, 1, 0);
+    number("is_record_end, null", tuple_is_record_end(group, 12, 1, 1), 0, 0, 0, 0);
+    number("is_record_end, past", tuple_is_record_end(group, 12, 12, 1), TUPLE_UNEXPECTED_EOF, 0, 0, 0);
+    step("close", tuple_close(group, 12, 10, 2), 0, 0, 0, 11, 1);
+    step("close, none open", tuple_close(group, 12, 10, 0), TUPLE_BAD_RECORD, 0, 0, 10, 0);
+    part_step("take_str", tuple_take_str((const uint8_t[]){0, 0x21, 'a', 'b', 'c', 0}, 6, 1, 9, more, 16), 0, 0, 1, 2, 3, 6, 9);
+    part_step("take_bytes", tuple_take_bytes(key, 7, 0, 9, more, 16), 0, 0, 2, 0, 2, 5, 9);
+    part_step("take_bytes, short", tuple_take_bytes(key, 7, 0, 300, more, 1), TUPLE_NO_ROOM, 2, 0, 0, 0, 0, 300);
+    step("put_null", tuple_put_null(out, 16, 3, 1), 0, 0, 0, 5, 1);
+    step("put_record", tuple_put_record(out, 16, 3, 1), 0, 0, 0, 4, 2);
+    step("put_union", tuple_put_union(out, 16, 3, 1, 300), 0, 0, 0, 7, 2);
+    step("put_end", tuple_put_end(out, 16, 3, 9), 0, 0, 0, 4, 8);
+    step("put_end, short", tuple_put_end(out, 3, 3, 300), TUPLE_NO_ROOM, 4, 0, 3, 300);
+    length("str_chars", tuple_str_chars((const uint8_t[]){0x21, 0}, 2), 0, 0, 0);
+    length("str_chars, an integer", tuple_str_chars(group + 3, 2), TUPLE_UNEXPECTED_MARK, 0x49, 0);
+    character("chars_next", tuple_chars_next((const uint8_t[]){'a', 0xC2, 0xA3, 0}, 4, 1, false), 0, 1, 0xA3, 3, false);
+    character("chars_next, end", tuple_chars_next((const uint8_t[]){'a', 0}, 2, 1, false), 0, 0, 0, 1, true);
+    character("chars_next, cut", tuple_chars_next((const uint8_t[]){'a'}, 1, 1, false), TUPLE_UNEXPECTED_EOF, 0, 0, 1, true);
 
     puts(wrong ? "the answers' layout differs" : "the answers' layout agrees");
     return wrong != 0;
