@@ -10,10 +10,10 @@ use Rattle.format.specs.Tree.{Ty, Tys, Alts, Val, Vals, valKind, numberIn, fiel
 use Rattle.format.specs.Sheet.{fieldCount, valCount, valWords, valPool}
 use Rattle.format.specs.TypeSheet.{typeOf}
 use Rattle.format.specs.ValueSheet.{valueOf}
-use Rattle.format.specs.Scalar.{width as intWidth, intBytes, uintBytes, strBytes, bytesBytes, refBytes, sequenceOf, predicateOf}
+use Rattle.format.specs.Scalar.{width as intWidth, intBytes, uintBytes, strBytes, bytesBytes, refBytes, sequenceOf, predicateOf, tagBytes}
 use Rattle.format.specs.Utf8.{utf8}
-use Rattle.format.specs.Encode.{valsBytes, maxDepth, maxKeyBytes, fine, ofKind, inUnion, fitsRef, groupAt, fits, fitsAll, fitsUnion, encode, encodeTyped, keyBytes, encodeKey}
-use Rattle.format.specs.Read.{Read, thenRead, getBig, widthIs, getUint, getNeg, getInt, startsFF, endsHere, consRead, getRun, afterZero, marked, getStr, getBytes, refRead, getRef}
+use Rattle.format.specs.Encode.{nullBytes, valsBytes, maxDepth, maxKeyBytes, fine, ofKind, inUnion, fitsRef, groupAt, fits, fitsAll, fitsUnion, encode, encodeTyped, keyBytes, encodeKey}
+use Rattle.format.specs.Read.{Read, thenRead, getBig, widthIs, getUint, getNeg, getInt, startsFF, endsHere, consRead, getRun, afterZero, marked, getStr, getBytes, refRead, getRef, getFactId}
 use Rattle.format.specs.Decode.{Decoded, scalar, after, both, unionEnd, opened, withTag, decode, decodeGroup, decodeUnion, decodeBare, whole, decodeTyped, decodeKey}
 use Rattle.format.specs.Skip.{passBytes, passField, turn, walk, skip, endOf, skipFrom}
 use Rattle.format.specs.Order.{cmpVal}
@@ -24,6 +24,10 @@ use Rattle.format.specs.Calls.{withType, withValue, written, filled, decodedBy,
 use Rattle.format.specs.Fields as fields
 use Rattle.format.specs.Fields.{takenFrom, placedFrom, hasZero, putAt}
 use Rattle.tuple.specs.Numbers.{Numbered, RefusalsNumbered}
+use Rattle.tuple.specs.StepNumbers.{StepsNumbered, CharNumbered}
+use Rattle.format.specs.Cursor as cursor
+use Rattle.format.specs.Cursor.{Cursor, deep, rest, movedBy, nullAt, recordMark, tagAt, unionMark, groupEnd, endAhead, wroteAt}
+use Rattle.format.specs.Chars as chars
 
 -- ---- steps
 
@@ -353,9 +357,9 @@ payload-if : (b : Bool) (x y : fields.Payload) → Numbered (x .answer) → Numb
 payload-if true x y p q = p
 payload-if false x y p q = q
 
-places : (bs scratch : List ℕ) (m : Read (List ℕ)) → Reads m → Numbered (placedFrom 0 bs scratch m .answer)
-places bs scratch (Read.got s r) p = payload-if (hasZero s) _ _ (payload-if (leb (length s) (length scratch)) _ _ tt (lit< tt)) tt
-places bs scratch (Read.bad n d) p = p
+places : (at : ℕ) (bs scratch : List ℕ) (m : Read (List ℕ)) → Reads m → Numbered (placedFrom at bs scratch m .answer)
+places at bs scratch (Read.got s r) p = payload-if (hasZero s) _ _ (payload-if (leb (length s) (length scratch)) _ _ tt (lit< tt)) tt
+places at bs scratch (Read.bad n d) p = p
 
 puts : (out : List ℕ) (at : ℕ) (bs : List ℕ) → Numbered (putAt out at bs .answer)
 puts out at bs = called-if (ltb (length out) at) _ _ (lit< tt) (called-if (ltb (length out) (at + length bs)) _ _ (lit< tt) tt)
@@ -429,11 +433,95 @@ refusals-numbered =
           writes buffer (withType (typeOf ty) (λ t. withFields t (fieldOf buffer used field words pool))) (replaces ty buffer used field words pool);
       get-i64 = λ bs. takes bs (getInt bs) (int bs);
       get-u64 = λ bs. takes bs (getUint bs) (uint bs);
-      get-str = λ bs scratch. places bs scratch (getStr bs) (str bs);
-      get-bytes = λ bs scratch. places bs scratch (getBytes bs) (bytes bs);
+      get-str = λ bs scratch. places 0 bs scratch (getStr bs) (str bs);
+      get-bytes = λ bs scratch. places 0 bs scratch (getBytes bs) (bytes bs);
       put-i64 = λ out at w. puts out at (intBytes w);
       put-u64 = λ out at n. puts out at (uintBytes n);
       put-str = λ out at text. called-if (utf8 text) (putAt out at (strBytes text)) (record { answer = refused BadString 0; buffer = out }) (puts out at (strBytes text)) (lit< tt);
       put-bytes = λ out at s. puts out at (bytesBytes s);
       put-fact-id = λ out at r. puts out at (refBytes r);
+    }
+
+-- ---- the cursors' steps
+
+fact-id : (bs : List ℕ) → Reads (getFactId bs)
+unfolding getFactId
+fact-id bs = mark 0x51 _ bs (λ b. reads-then (getBig 8 b) _ (big 8 b) (λ r more. reads-if (eqb (sequenceOf r) 0) _ _ (lit< tt) tt))
+
+null : (depth : ℕ) (bs : List ℕ) → Reads (nullAt depth bs)
+null depth [] = lit< tt
+null depth (b ∷ bs) = reads-if (eqb b 0) _ _ (reads-if (ltb 0 depth) _ _ (reads-if (startsFF bs) _ _ tt (lit< tt)) tt) (lit< tt)
+
+record-mark : (depth : ℕ) (bs : List ℕ) → Reads (recordMark depth bs)
+record-mark depth [] = lit< tt
+record-mark depth (b ∷ bs) = reads-if (eqb b 0x22) _ _ (reads-if (ltb depth maxDepth) _ _ tt (lit< tt)) (lit< tt)
+
+tag : (depth : ℕ) (m : Read ℕ) → Reads m → Reads (tagAt depth m)
+tag depth (Read.got t r) p = reads-if (ltb depth maxDepth) _ _ tt (lit< tt)
+tag depth (Read.bad n d) p = p
+
+union-mark : (depth : ℕ) (bs : List ℕ) → Reads (unionMark depth bs)
+union-mark depth [] = lit< tt
+union-mark depth (b ∷ bs) = reads-if (eqb b 0x52) _ _ (tag depth (getUint bs) (uint bs)) (lit< tt)
+
+group-end : (bs : List ℕ) → Reads (groupEnd bs)
+group-end [] = lit< tt
+group-end (b ∷ bs) = reads-if (endsHere (b ∷ bs)) _ _ tt (lit< tt)
+
+end-ahead : (bs : List ℕ) → Numbered (endAhead bs)
+end-ahead [] = lit< tt
+end-ahead (b ∷ bs) = tt
+
+moves : {A : Type 0} (bs : List ℕ) (c : Cursor) (depth : ℕ) (m : Read A) → Reads m → Numbered (movedBy bs c depth m)
+moves bs c depth (Read.got a r) p = tt
+moves bs c depth (Read.bad n d) p = p
+
+wrote : (depth : ℕ) (p : calls.Called ℕ) → Numbered (p .answer) → Numbered (wroteAt depth p .answer)
+wrote depth p h = numbered-then (p .answer) _ h (λ at. tt)
+
+wrote-if : (b : Bool) (x y : cursor.Wrote) → Numbered (x .answer) → Numbered (y .answer) → Numbered (if b x y .answer)
+wrote-if true x y p q = p
+wrote-if false x y p q = q
+
+chars-if : (b : Bool) (x y : chars.Stepped) → CharNumbered (x .step) → CharNumbered (y .step) → CharNumbered (if b x y .step)
+chars-if true x y p q = p
+chars-if false x y p q = q
+
+step-on : (at : ℕ) (bs : List ℕ) → CharNumbered (chars.stepOn at bs .step)
+unfolding chars.stepOn
+step-on at [] = lit< tt
+step-on at (b ∷ bs) =
+    chars-if (eqb b 0) _ _ (chars-if (startsFF bs) _ _ tt tt)
+    (chars-if (ltb (length (b ∷ bs)) (chars.leadWidth b)) _ _ (lit< tt) (chars-if (utf8 (take (chars.leadWidth b) (b ∷ bs))) _ _ tt (lit< tt)))
+
+char-step : (s : List ℕ) (at : ℕ) (done : Bool) → CharNumbered (chars.stepAt s at done .step)
+unfolding chars.stepAt
+char-step s at true = tt
+char-step s at false = step-on at (drop at s)
+
+opening : (bs : List ℕ) → Numbered (chars.opened bs)
+unfolding chars.opened
+opening [] = lit< tt
+opening (m ∷ bs) = numbered-if (eqb m 0x21) _ _ tt (lit< tt)
+
+pub steps-numbered : StepsNumbered
+unfolding cursor.takeNull cursor.takeI64 cursor.takeU64 cursor.takeFactId cursor.takeStr cursor.takeBytes cursor.openRecord cursor.openUnion cursor.close cursor.isRecordEnd cursor.putNull cursor.putRecord cursor.putUnion cursor.putEnd
+steps-numbered =
+    record {
+      take-null = λ bs c. moves (rest bs c) c (deep c) (nullAt (deep c) (rest bs c)) (null (deep c) (rest bs c));
+      take-i64 = λ bs c. moves (rest bs c) c (deep c) (getInt (rest bs c)) (int (rest bs c));
+      take-u64 = λ bs c. moves (rest bs c) c (deep c) (getUint (rest bs c)) (uint (rest bs c));
+      take-fact-id = λ bs c. moves (rest bs c) c (deep c) (getFactId (rest bs c)) (fact-id (rest bs c));
+      take-str = λ bs c scratch. numbered-then (placedFrom (c .at) (rest bs c) scratch (getStr (rest bs c)) .answer) _ (places (c .at) (rest bs c) scratch (getStr (rest bs c)) (str (rest bs c))) (λ t. tt);
+      take-bytes = λ bs c scratch. numbered-then (placedFrom (c .at) (rest bs c) scratch (getBytes (rest bs c)) .answer) _ (places (c .at) (rest bs c) scratch (getBytes (rest bs c)) (bytes (rest bs c))) (λ t. tt);
+      open-record = λ bs c. moves (rest bs c) c (deep c + 1) (recordMark (deep c) (rest bs c)) (record-mark (deep c) (rest bs c));
+      open-union = λ bs c. moves (rest bs c) c (deep c + 1) (unionMark (deep c) (rest bs c)) (union-mark (deep c) (rest bs c));
+      close = λ bs c. numbered-if (eqb (c .depth) 0) _ _ (lit< tt) (moves (rest bs c) c (deep c - 1) (groupEnd (rest bs c)) (group-end (rest bs c)));
+      is-record-end = λ bs c. numbered-if (eqb (c .depth) 0) _ _ tt (end-ahead (rest bs c));
+      put-null = λ out c. wrote (deep c) (putAt out (c .at) (nullBytes (deep c))) (puts out (c .at) (nullBytes (deep c)));
+      put-record = λ out c. wrote-if (ltb (deep c) maxDepth) _ _ (wrote (deep c + 1) (putAt out (c .at) (0x22 ∷ [])) (puts out (c .at) (0x22 ∷ []))) (lit< tt);
+      put-union = λ out c disc. wrote-if (ltb (deep c) maxDepth) _ _ (wrote (deep c + 1) (putAt out (c .at) (tagBytes disc)) (puts out (c .at) (tagBytes disc))) (lit< tt);
+      put-end = λ out c. wrote-if (eqb (c .depth) 0) _ _ (lit< tt) (wrote (deep c - 1) (putAt out (c .at) (0 ∷ [])) (puts out (c .at) (0 ∷ [])));
+      str-chars = λ bs. opening bs;
+      chars-next = λ bs at done. char-step bs at done;
     }

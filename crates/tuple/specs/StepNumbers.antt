@@ -3,12 +3,13 @@
 use mathlib.Core.Path.{_≡_}
 use mathlib.Core.List.{List}
 use mathlib.Core.Bool.{Bool}
-use Prim.Native.Nat.{ℕ}
+use Prim.Native.Nat.{ℕ, _<_}
 use lib.Dec.{eqb}
 use Rattle.format.specs.Answer.{if, Answer, ok, refused}
 use Rattle.format.specs.Fields.{Place, inKey, inScratch}
 use Rattle.format.specs.Cursor as cursor
 use Rattle.format.specs.Chars as chars
+use Rattle.tuple.specs.Numbers.{Numbered}
 use Rattle.tuple.specs.declared.answers.Length.{Length}
 use Rattle.tuple.specs.declared.answers.Number.{Number}
 use Rattle.tuple.specs.declared.steps.CursorStep.{CursorStep}
@@ -88,3 +89,29 @@ pub record PartTaken (at depth : ℕ) (p : cursor.MovedPayload) (r : PartStep) (
 pub record StepWritten (at depth : ℕ) (w : cursor.Wrote) (r : CursorStep) (buffer : List ℕ) : Type 0 where
   pub answer : r ≡ wroteStep at depth (w .answer)
   pub left : buffer ≡ w .buffer
+
+-- ---- refusal 0 says that a step was accepted
+
+abbrev pub CharNumbered : chars.Step → Type 0
+CharNumbered (chars.Step.char code) = Unit
+CharNumbered chars.Step.end = Unit
+CharNumbered (chars.Step.bad n d) = 0 < n
+
+-- in every step, whatever its arguments (proofs/Refusals)
+pub record StepsNumbered : Type 0 where
+  pub take-null : (bytes : List ℕ) (c : cursor.Cursor) → Numbered (cursor.takeNull bytes c)
+  pub take-i64 : (bytes : List ℕ) (c : cursor.Cursor) → Numbered (cursor.takeI64 bytes c)
+  pub take-u64 : (bytes : List ℕ) (c : cursor.Cursor) → Numbered (cursor.takeU64 bytes c)
+  pub take-fact-id : (bytes : List ℕ) (c : cursor.Cursor) → Numbered (cursor.takeFactId bytes c)
+  pub take-str : (bytes : List ℕ) (c : cursor.Cursor) (scratch : List ℕ) → Numbered (cursor.takeStr bytes c scratch .answer)
+  pub take-bytes : (bytes : List ℕ) (c : cursor.Cursor) (scratch : List ℕ) → Numbered (cursor.takeBytes bytes c scratch .answer)
+  pub open-record : (bytes : List ℕ) (c : cursor.Cursor) → Numbered (cursor.openRecord bytes c)
+  pub open-union : (bytes : List ℕ) (c : cursor.Cursor) → Numbered (cursor.openUnion bytes c)
+  pub close : (bytes : List ℕ) (c : cursor.Cursor) → Numbered (cursor.close bytes c)
+  pub is-record-end : (bytes : List ℕ) (c : cursor.Cursor) → Numbered (cursor.isRecordEnd bytes c)
+  pub put-null : (out : List ℕ) (c : cursor.Cursor) → Numbered (cursor.putNull out c .answer)
+  pub put-record : (out : List ℕ) (c : cursor.Cursor) → Numbered (cursor.putRecord out c .answer)
+  pub put-union : (out : List ℕ) (c : cursor.Cursor) (disc : ℕ) → Numbered (cursor.putUnion out c disc .answer)
+  pub put-end : (out : List ℕ) (c : cursor.Cursor) → Numbered (cursor.putEnd out c .answer)
+  pub str-chars : (bytes : List ℕ) → Numbered (chars.opened bytes)
+  pub chars-next : (bytes : List ℕ) (at : ℕ) (done : Bool) → CharNumbered (chars.stepAt bytes at done .step)
