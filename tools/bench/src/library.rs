@@ -35,6 +35,8 @@ pub struct Order {
 unsafe extern "C" {
     fn tuple_encode_key(ty: *const u32, ty_len: usize, words: *const u64, words_len: usize, pool: *const u8, pool_len: usize, out: *mut u8, out_len: usize) -> Length;
     fn tuple_decode_key(ty: *const u32, ty_len: usize, bytes: *const u8, bytes_len: usize, words: *mut u64, words_len: usize, pool: *mut u8, pool_len: usize) -> Sheet;
+    fn tuple_encode_typed(ty: *const u32, ty_len: usize, words: *const u64, words_len: usize, pool: *const u8, pool_len: usize, out: *mut u8, out_len: usize) -> Length;
+    fn tuple_decode_typed(ty: *const u32, ty_len: usize, bytes: *const u8, bytes_len: usize, words: *mut u64, words_len: usize, pool: *mut u8, pool_len: usize) -> Sheet;
     fn tuple_check_key(ty: *const u32, ty_len: usize, bytes: *const u8, bytes_len: usize) -> Sheet;
     fn tuple_skip(bytes: *const u8, bytes_len: usize, start: usize, require_escape_null: bool) -> Length;
     fn tuple_compare(words_a: *const u64, words_a_len: usize, pool_a: *const u8, pool_a_len: usize, words_b: *const u64, words_b_len: usize, pool_b: *const u8, pool_b_len: usize) -> Order;
@@ -50,6 +52,16 @@ pub fn encode_key(ty: &[u32], words: &[u64], pool: &[u8], out: &mut [u8]) -> Len
 pub fn decode_key(ty: &[u32], key: &[u8], words: &mut [u64], pool: &mut [u8]) -> Sheet {
     unsafe {
         tuple_decode_key(ty.as_ptr(), ty.len(), key.as_ptr(), key.len(), words.as_mut_ptr(), words.len(), pool.as_mut_ptr(), pool.len())
+    }
+}
+
+pub fn encode_typed(ty: &[u32], words: &[u64], pool: &[u8], out: &mut [u8]) -> Length {
+    unsafe { tuple_encode_typed(ty.as_ptr(), ty.len(), words.as_ptr(), words.len(), pool.as_ptr(), pool.len(), out.as_mut_ptr(), out.len()) }
+}
+
+pub fn decode_typed(ty: &[u32], bytes: &[u8], words: &mut [u64], pool: &mut [u8]) -> Sheet {
+    unsafe {
+        tuple_decode_typed(ty.as_ptr(), ty.len(), bytes.as_ptr(), bytes.len(), words.as_mut_ptr(), words.len(), pool.as_mut_ptr(), pool.len())
     }
 }
 

@@ -3,9 +3,10 @@
 //! The library is given sheets, which each call admits, and buffers lent once, which decoding fills. The original is given its own types and values, built
 //! before, and allocates what it answers; the time to free that counts. The third time is the original's with what the library's includes: its sheets
 //! admitted to types and values first, a decoded value written to a sheet in buffers lent once. Bounds and replacement are the original's decode, change
-//! and encode.
+//! and encode. The argument `growth` shows how time grows with the size of a value instead.
 
 mod clock;
+mod growth;
 mod inputs;
 mod library;
 #[path = "../../oracle/oracle/src/sheet.rs"]
@@ -26,6 +27,9 @@ fn main() {
 }
 
 fn run(wanted: &[String]) {
+    if wanted == ["growth"] {
+        return growth::run();
+    }
     let inputs = inputs::all();
     println!("| call | input | key bytes | Rust ns | ours ns | ours / Rust | Rust from sheets ns | ours / that |\n|-|-|-|-|-|-|-|-|");
     for call in CALLS {
