@@ -1,5 +1,5 @@
 /* A tank's key, and the ends of the range that holds this tank's keys alone.
- * cc -I include examples/tank.c target/staticlib/libtuple.a -o tank && ./tank */
+ * cc -I include examples/tank.c target/staticlib/libtuple.a -o target/tank && target/tank */
 #include "tuple.h"
 #include <stdio.h>
 
