@@ -9,7 +9,7 @@ use lib.ListN.{length, getD, drop}
 use borrow.Author.Tests.{eq-eqb, ne-eqb, lt-ltb, le-ltb, le-leb, lt-leb}
 use Rattle.format.specs.Read.{Read, startsFF, endsHere}
 use Rattle.format.specs.Skip.{passBytes, passField}
-use Rattle.skip.specs.Tokens.{field}
+use Rattle.skip.specs.Tokens.{field, Width}
 
 -- ---- the byte behind the first
 
@@ -108,3 +108,18 @@ module _ (escape : Bool) (depth : ℕ) where
           ne-eqb m 0x51 a,
           ne-eqb m 0x52 b,
         )
+
+-- ---- numbers
+
+pub width-none : (m : ℕ) → Width m 9
+width-none m = record { passes = λ h. absurd (omega arith) }
+
+pub width-negative : (m : ℕ) → 0x40 ≤ m → m < 0x48 → Width m (0x48 - m)
+width-negative m l h = record { passes = λ _ escape depth s. mark-negative escape depth m s l h }
+
+pub width-positive : (m : ℕ) → 0x48 ≤ m → m ≤ 0x50 → Width m (m - 0x48)
+width-positive m l h = record { passes = λ _ escape depth s. mark-positive escape depth m s l h }
+
+pub width-reference : Width 0x51 8
+unfolding passField
+width-reference = record { passes = λ _ escape depth s. refl }

@@ -5,17 +5,19 @@ use mathlib.Core.List.{List, [], _∷_, _++_}
 use Prim.Native.Nat.{ℕ, _+_, _-_, _≤_, _<_}
 use native.Mathlib.Omega.{arith}
 use lib.Dec.{ltb, eqb}
-use lib.ListN.{length, drop, length-drop, length-append, drop-of-length-le}
-use lib.Seq.{drop-drop, drop-at}
+use lib.ListN.{length, getD, drop, length-drop, length-append, drop-of-length-le}
+use lib.Seq.{drop-drop, drop-at, getD-drop}
 use borrow.Author.Tests.{eq-eqb, ne-eqb, ltb-true}
 use Rattle.format.specs.Answer.{Answer, ok, refused}
 use Rattle.format.specs.Read.{Read, thenRead, endsHere}
 use Rattle.format.specs.Fields.{takenFrom}
-use Rattle.format.specs.Skip.{turn, endOf, skipFrom}
+use Rattle.format.specs.Skip.{passBytes, passField, turn, endOf, skipFrom}
 use Rattle.format.specs.Calls.{skipCall}
 use Rattle.format.proofs.SkipLaws.{ended, walkFrom, walk-step, skip-walk, turn-takes}
 use Rattle.scalar.proofs.Reading.{Front, Took, took, refuses}
 use Rattle.skip.specs.Tokens.{field}
+use Rattle.skip.proofs.Marks.{field-known}
+use Rattle.skip.proofs.Passing.{fixed-passed}
 
 -- ---- one turn
 
@@ -109,3 +111,18 @@ module _ {escape : Bool} {b : List ℕ} {start i d : ℕ} (w : Walk escape b sta
         let e : Read.got tt (drop (i + n) b) ≡ walkFrom escape 0 (drop start b) = (rw (eq-eqb o 0 h) at (behind reads)) in
         let l : length b - length (drop (i + n) b) ≡ i + n = omega (arith, walk-within, length-drop (i + n) b) in
         rw (by-walk escape b start, ← e, l)
+
+-- ---- one turn for all
+
+-- no group is open at the start, and a number opens none
+pub number-ends : (b : List ℕ) (start w : ℕ) → start + w < length b → ((escape : Bool) (s : List ℕ) → passField escape 0 (getD b start 0) s ≡ passBytes w 0 s) → (escape : Bool) → ok (start + w + 1) ≡ skipCall b start escape
+number-ends b start w h passes escape =
+    let s = drop start b in
+    let l = length-drop start b in
+    let z : start + 0 ≡ start = omega arith in
+    let f : getD s 0 0 ≡ getD b start 0 = getD-drop start b 0 0 ∙ ap (λ (i : ℕ). getD b i 0) z in
+    let e : field escape 0 s ≡ passBytes w 0 (drop 1 s) = field-known escape 0 s (getD b start 0) (omega arith) f ∙ passes escape (drop 1 s) in
+    let p : ok (record { value = 0; used = w + 1 }) ≡ takenFrom s (field escape 0 s) = rw e (fixed-passed s 0 (omega arith) w (omega arith)) in
+    let t = turn-took escape 0 s refl p in
+    let a : start + (w + 1) ≡ start + w + 1 = omega arith in
+    rw (← a) (walk-end (walk-start escape b start (omega arith)) t refl)

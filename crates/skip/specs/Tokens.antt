@@ -1,13 +1,15 @@
 -- What the answers mean, by cases, and the parts of `passField` that have a function each.
 use mathlib.Core.Bool.{Bool}
 use mathlib.Core.List.{List, [], _∷_}
-use Prim.Native.Nat.{ℕ, _+_}
+use mathlib.Core.Path.{_≡_}
+use Prim.Native.Nat.{ℕ, _+_, _<_}
 use lib.Dec.{ltb}
 use lib.ListN.{drop}
 use Rattle.format.specs.Answer.{if, Answer, ok, refused, UnexpectedEof, UnexpectedTerminator, BadRecord}
 use Rattle.format.specs.Encode.{maxDepth}
 use Rattle.format.specs.Read.{Read, thenRead, getUint, getRun, startsFF}
-use Rattle.format.specs.Skip.{passField}
+use Rattle.format.specs.Skip.{passBytes, passField}
+use Rattle.format.specs.Calls.{skipCall}
 use Rattle.format.specs.Fields.{Taken}
 use Rattle.skip.specs.declared.Skipped.{Skipped}
 use Rattle.skip.specs.declared.Skipped.the-variants.{End, Refused}
@@ -42,3 +44,13 @@ passUnion depth bs = if (ltb depth maxDepth) (thenRead (getUint bs) (λ d rest. 
 unfoldable pub field : Bool → ℕ → List ℕ → Read ℕ
 field escape depth [] = Read.bad UnexpectedEof 0
 field escape depth (m ∷ bs) = passField escape depth m bs
+
+-- ---- numbers: integers and references
+
+-- r bytes follow the mark, unless r is 9
+pub record Width (m r : ℕ) : Type 0 where
+  pub passes : r < 9 → (escape : Bool) (depth : ℕ) (s : List ℕ) → passField escape depth m s ≡ passBytes r depth s
+
+-- r is the place behind the field at the start, unless r is 0
+pub record NumberEnds (key : List ℕ) (start r : ℕ) : Type 0 where
+  pub ends : (r ≡ 0 → ⊥) → (escape : Bool) → ok r ≡ skipCall key start escape

@@ -10,7 +10,7 @@ ghost use Rattle.format.specs.Read.{startsFF, endsHere};
 ghost use Rattle.format.specs.Fields.{takenFrom};
 ghost use Rattle.format.specs.Skip.{passBytes, passNull};
 ghost use Rattle.format.specs.Calls.{skipCall};
-ghost use Rattle.skip.specs.Tokens.{skippedOf, tokenOf, escapedNull, passRun, passRecord, passUnion, field};
+ghost use Rattle.skip.specs.Tokens.{skippedOf, tokenOf, escapedNull, passRun, passRecord, passUnion, field, Width, NumberEnds};
 
 // The place behind the field; or a refusal and its detail.
 pub enum Skipped {
@@ -144,8 +144,8 @@ fn field_token(rest: &[u8], depth: u32, escape: bool) -> Token
     }
 }
 
-// The place in the key behind the field that starts at a place, any place.
-pub fn skip(bytes: &[u8], start: usize, require_escape_null: bool) -> Skipped
+// The place in the key behind the field that starts at a place, turn by turn.
+fn walk(bytes: &[u8], start: usize, require_escape_null: bool) -> Skipped
     ensures { λ r. ⌜ skippedOf r ≡ skipCall (now (bytes .entry)) start «require_escape_null» ⌝ }
 {
     if bytes.len() < start {
@@ -153,12 +153,12 @@ pub fn skip(bytes: &[u8], start: usize, require_escape_null: bool) -> Skipped
     }
     let mut i = start;
     let mut depth: u32 = 0;
-    let end = 'walk: loop {
+    let end = 'groups: loop {
         while group_ends(&bytes[i..], depth) {
             i += 1;
             depth -= 1;
             if depth == 0 {
-                break 'walk i;
+                break 'groups i;
             }
         }
         match field_token(&bytes[i..], depth, require_escape_null) {
@@ -166,11 +166,58 @@ pub fn skip(bytes: &[u8], start: usize, require_escape_null: bool) -> Skipped
                 i += n;
                 depth = inner;
                 if depth == 0 {
-                    break 'walk i;
+                    break 'groups i;
                 }
             }
             Token::Bad(no, detail) => return Skipped::Refused(no, detail),
         }
     };
     Skipped::End(end)
+}
+
+// How many bytes follow the mark of an integer or a reference; 9 for another mark.
+fn number_width(mark: u8) -> usize
+    ensures { λ r. ⌜ Width mark r ⌝ }
+{
+    if mark < 0x40 {
+        return 9;
+    }
+    if mark < 0x48 {
+        return (0x48 - mark) as usize;
+    }
+    if mark <= 0x50 {
+        return (mark - 0x48) as usize;
+    }
+    if mark == 0x51 {
+        return 8;
+    }
+    9
+}
+
+// The place behind the integer or the reference that starts at a place; 0 for another field. It opens no group, so there is nothing to walk.
+fn number_end(bytes: &[u8], start: usize) -> usize
+    ensures { λ r. ⌜ NumberEnds (now (bytes .entry)) start r ⌝ }
+{
+    if bytes.len() <= start {
+        return 0;
+    }
+    let width = number_width(bytes[start]);
+    if 8 < width {
+        return 0;
+    }
+    if bytes.len() - start <= width {
+        return 0;
+    }
+    start + width + 1
+}
+
+// The place in the key behind the field that starts at a place, any place.
+pub fn skip(bytes: &[u8], start: usize, require_escape_null: bool) -> Skipped
+    ensures { λ r. ⌜ skippedOf r ≡ skipCall (now (bytes .entry)) start «require_escape_null» ⌝ }
+{
+    let end = number_end(bytes, start);
+    if end != 0 {
+        return Skipped::End(end);
+    }
+    walk(bytes, start, require_escape_null)
 }

@@ -1,169 +1,26 @@
-use mathlib.Core.Bool.{Bool, true, false}
-use mathlib.Core.Path.{_≡_, sym, _∙_}
-use mathlib.Core.List.{List}
-use Prim.Native.Nat.{ℕ, _-_, _≤_}
-use native.Mathlib.Omega.{arith}
-use lib.ListN.{length, drop}
-use Rattle.format.specs.Skip.{turn}
-use Rattle.format.specs.Read.{Read}
-use Rattle.scalar.proofs.Parts.{part-rest}
-use Rattle.scalar.proofs.Reading.{Took}
-use Rattle.skip.specs.declared.Token.the-variants.{Passed, Bad}
-use Rattle.skip.proofs.Walking.{Ending, ends-open, turn-closes, turn-took, turn-refuses, Walk, walk-start, walk-past, walk-bad, walk-within, walk-on, walk-end}
 use borrow.Author.Needs.{needs}
 use Rattle.skip.proofs.skip.Statement.{statement}
 use Rattle.skip.proofs.skip.Tie as tie
+use Rattle.skip.proofs.skip.Reads as reads
+use Rattle.skip.proofs.skip.Lts as lts
+use Rattle.skip.proofs.number_end.Reads as number-end-reads
+use Rattle.skip.proofs.walk.Reads as walk-reads
 
-abbrev Inv-loop : tie.InvT-loop
-Inv-loop bytes start escape i₀ depth₀ i depth = (i₀ ≤ i) × Walk escape bytes start i depth
+-- src/lib.rt:218:9
+number-end-requires : tie.Need-number-end-requires
+number-end-requires c κs = search needs
 
-abbrev μ-loop : tie.MeasureT-loop
-μ-loop bytes start escape i₀ depth₀ i depth = length bytes - i
+-- src/lib.rt:220:9
+returns : tie.Need-returns
+returns c = c .before .number-end .ensures .ends (c .if1 .taken) (c .before .before .before .args .require-escape-null)
 
-abbrev Inv-walk : tie.InvT-walk
-Inv-walk bytes start escape i₀ depth₀ i depth = Walk escape bytes start i depth
+-- src/lib.rt:222:5
+walk-requires : tie.Need-walk-requires
+walk-requires c κs = search needs
 
-abbrev μ-walk : tie.MeasureT-walk
-μ-walk bytes start escape i₀ depth₀ i depth = length bytes - i
-
--- at a turn: whether the escape is required, the depth, the rest of the key, and the walk so far
-abbrev Here : Type 0
-Here = tie.After-group-ends Inv-loop μ-loop Inv-walk μ-walk
-
-abbrev Escape : Here → Bool
-Escape k = k .before .before .before .before .before .before .args .require-escape-null
-
-abbrev Depth : Here → ℕ
-Depth k = k .before .before .loop .depth
-
-abbrev Rest : Here → List ℕ
-Rest k = drop (k .before .before .loop .i) (k .before .before .before .before .before .before .args .bytes .now)
-
-walked : (k : Here) → Walk (Escape k) (k .before .before .before .before .before .before .args .bytes .now) (k .before .before .before .before .before .before .args .start) (k .before .before .loop .i) (Depth k)
-walked k = k .before .before .loop .inv .1
-
--- what the test says of the rest of the key
-ends : (k : Here) {t : Bool} → k .group-ends .result ≡ t → Ending (Depth k) (Rest k) ≡ t
-ends k e = sym (rw (part-rest (k .before .before .loop .i) (k .before .before .before .before .before .before .args .bytes .now)) at (k .group-ends .ensures)) ∙ e
-
-closes : (k : Here) → k .group-ends .result ≡ true → Took (Rest k) (turn (Escape k) (Depth k) (Rest k)) (Depth k - 1) 1
-closes k e = turn-closes (Escape k) (Depth k) (Rest k) (ends k e)
-
--- at a field
-abbrev Field : Type 0
-Field = tie.After-field-token Inv-loop μ-loop Inv-walk μ-walk
-
-passes : (f : Field) (d n : ℕ) → f .field-token .result ≡ Passed d n
-    → let k = f .before .before .before in Took (Rest k) (turn (Escape k) (Depth k) (Rest k)) d n
-passes f d n e =
-    let k = f .before .before .before in
-    turn-took (Escape k) (Depth k) (Rest k) (ends k (f .before .before .if2 .left))
-    (rw (part-rest (k .before .before .loop .i) (k .before .before .before .before .before .before .args .bytes .now), e) at (f .field-token .ensures))
-
-refuses : (f : Field) (n d : ℕ) → f .field-token .result ≡ Bad n d
-    → let k = f .before .before .before in turn (Escape k) (Depth k) (Rest k) ≡ Read.bad n d
-refuses f n d e =
-    let k = f .before .before .before in
-    turn-refuses (Escape k) (Depth k) (Rest k) (ends k (f .before .before .if2 .left))
-    (rw (part-rest (k .before .before .loop .i) (k .before .before .before .before .before .before .args .bytes .now), e) at (f .field-token .ensures))
-
-returns : tie.Need-returns Inv-loop μ-loop Inv-walk μ-walk
-returns c = walk-past _ _ _ (c .if1 .taken)
-
-walk-holds : tie.Need-walk-holds Inv-loop μ-loop Inv-walk μ-walk
-walk-holds c = walk-start _ _ _ (c .if1 .left)
-
-loop-holds : tie.Need-loop-holds Inv-loop μ-loop Inv-walk μ-walk
-loop-holds c = (omega arith, c .walk .inv)
-
-sub-group-ends : tie.Need-sub-group-ends Inv-loop μ-loop Inv-walk μ-walk
-sub-group-ends c = search needs
-
-part-group-ends-start : tie.Need-part-group-ends-start Inv-loop μ-loop Inv-walk μ-walk
-part-group-ends-start c = search needs
-
-part-group-ends-end : tie.Need-part-group-ends-end Inv-loop μ-loop Inv-walk μ-walk
-part-group-ends-end c = search needs
-
-group-ends-requires : tie.Need-group-ends-requires Inv-loop μ-loop Inv-walk μ-walk
-group-ends-requires c κs = search needs
-
-add-i : tie.Need-add-i Inv-loop μ-loop Inv-walk μ-walk
-add-i c = let k = c .before in omega (arith, walk-within (walked k) (closes k (c .if2 .taken)))
-
-sub-depth : tie.Need-sub-depth Inv-loop μ-loop Inv-walk μ-walk
-sub-depth c = let k = c .before in omega (arith, ends-open (Depth k) (Rest k) (ends k (c .if2 .taken)))
-
-loop-less : tie.Need-loop-less Inv-loop μ-loop Inv-walk μ-walk
-loop-less c = let k = c .before .before in omega (arith, walk-within (walked k) (closes k (c .before .if2 .taken)))
-
-loop-again : tie.Need-loop-again Inv-loop μ-loop Inv-walk μ-walk
-loop-again c = let k = c .before .before in (omega arith, walk-on (walked k) (closes k (c .before .if2 .taken)) (c .if3 .left))
-
-sub-field-token : tie.Need-sub-field-token Inv-loop μ-loop Inv-walk μ-walk
-sub-field-token c = search needs
-
-part-field-token-start : tie.Need-part-field-token-start Inv-loop μ-loop Inv-walk μ-walk
-part-field-token-start c = search needs
-
-part-field-token-end : tie.Need-part-field-token-end Inv-loop μ-loop Inv-walk μ-walk
-part-field-token-end c = search needs
-
-field-token-requires : tie.Need-field-token-requires Inv-loop μ-loop Inv-walk μ-walk
-field-token-requires c κs = search needs
-
-enum-known-inner : tie.Need-enum-known-inner Inv-loop μ-loop Inv-walk μ-walk
-enum-known-inner c = search needs
-
-add-i-2 : tie.Need-add-i-2 Inv-loop μ-loop Inv-walk μ-walk
-add-i-2 c = let f = c .before .before .before in omega (arith, walk-within (walked (f .before .before .before)) (passes f _ _ (c .before .inner .given .1)))
-
-walk-less : tie.Need-walk-less Inv-loop μ-loop Inv-walk μ-walk
-walk-less c = let f = c .before .before .before .before in omega (arith, walk-within (walked (f .before .before .before)) (passes f _ _ (c .before .before .inner .given .1)))
-
-walk-again : tie.Need-walk-again Inv-loop μ-loop Inv-walk μ-walk
-walk-again c = let f = c .before .before .before .before in walk-on (walked (f .before .before .before)) (passes f _ _ (c .before .before .inner .given .1)) (c .if4 .left)
-
-enum-known-no : tie.Need-enum-known-no Inv-loop μ-loop Inv-walk μ-walk
-enum-known-no c = search needs
-
-returns-2 : tie.Need-returns-2 Inv-loop μ-loop Inv-walk μ-walk
-returns-2 c = let f = c .before .before .before in walk-bad (walked (f .before .before .before)) (refuses f _ _ (c .before .no .given .1))
-
-returns-3 : tie.Need-returns-3 Inv-loop μ-loop Inv-walk μ-walk
-returns-3 c = let k = c .before .before in walk-end (walked k) (closes k (c .before .if2 .taken)) (c .if3 .taken)
-
-returns-4 : tie.Need-returns-4 Inv-loop μ-loop Inv-walk μ-walk
-returns-4 c = let f = c .before .before .before .before in walk-end (walked (f .before .before .before)) (passes f _ _ (c .before .before .inner .given .1)) (c .if4 .taken)
+-- src/lib.rt:215:1
+returns-2 : tie.Need-returns-2
+returns-2 c = search needs
 
 pub skip-spec : {M : Type 1} → statement M
-skip-spec =
-    tie.close
-    (tie.spec
-    Inv-loop
-    μ-loop
-    Inv-walk
-    μ-walk
-    returns
-    walk-holds
-    loop-holds
-    sub-group-ends
-    part-group-ends-start
-    part-group-ends-end
-    group-ends-requires
-    add-i
-    sub-depth
-    loop-less
-    loop-again
-    sub-field-token
-    part-field-token-start
-    part-field-token-end
-    field-token-requires
-    enum-known-inner
-    add-i-2
-    walk-less
-    walk-again
-    enum-known-no
-    returns-2
-    returns-3
-    returns-4)
+skip-spec = tie.close (tie.spec number-end-requires returns walk-requires returns-2)

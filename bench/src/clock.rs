@@ -23,6 +23,10 @@ const BATCHES: usize = 41;
 
 /// The median of each, in nanoseconds a turn: batches of all of them by turns, each over the inputs again and again.
 pub fn medians<const N: usize>(mut list: [&mut dyn FnMut(usize); N], inputs: usize) -> [f64; N] {
+    if crate::counts::inside() {
+        list.iter_mut().for_each(|f| crate::counts::count(*f, inputs));
+        return [0.0; N];
+    }
     let turns: Vec<usize> = list.iter_mut().map(|f| turns(*f, inputs)).collect();
     let mut times = vec![Vec::new(); N];
     for _ in 0..BATCHES {

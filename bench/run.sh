@@ -9,6 +9,6 @@ fi
 TUPLE_LIB=$(cd "$1" && pwd)
 export TUPLE_LIB
 shift
-cd "$(dirname "$0")/.."
+cd "$(dirname "$0")/../tools"
 cargo build --release --offline -q -p bench
 exec target/release/bench "$@"

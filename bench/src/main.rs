@@ -3,13 +3,14 @@
 //! The library is given sheets, which each call admits, and buffers lent once, which decoding fills. The original is given its own types and values, built
 //! before, and allocates what it answers; the time to free that counts. The third time is the original's with what the library's includes: its sheets
 //! admitted to types and values first, a decoded value written to a sheet in buffers lent once. Bounds and replacement are the original's decode, change
-//! and encode. The argument `growth` shows how time grows with the size of a value instead.
+//! and encode. The argument `growth` shows how time grows with the size of a value instead, `counts` the instructions by callgrind.
 
 mod clock;
+mod counts;
 mod growth;
 mod inputs;
 mod library;
-#[path = "../../oracle/oracle/src/sheet.rs"]
+#[path = "../../tools/oracle/oracle/src/sheet.rs"]
 #[allow(dead_code)]
 mod sheet;
 
@@ -30,8 +31,15 @@ fn run(wanted: &[String]) {
     if wanted == ["growth"] {
         return growth::run();
     }
+    if let [first, words @ ..] = wanted
+        && first == "counts"
+    {
+        return counts::run(words);
+    }
     let inputs = inputs::all();
-    println!("| call | input | key bytes | Rust ns | ours ns | ours / Rust | Rust from sheets ns | ours / that |\n|-|-|-|-|-|-|-|-|");
+    if !counts::inside() {
+        println!("| call | input | key bytes | Rust ns | ours ns | ours / Rust | Rust from sheets ns | ours / that |\n|-|-|-|-|-|-|-|-|");
+    }
     for call in CALLS {
         for input in &inputs {
             let name = format!("{call} {}", input.name);
@@ -39,6 +47,10 @@ fn run(wanted: &[String]) {
                 let mut row = Row::new(input);
                 let bytes = row.cases.iter().map(|case| case.key.len()).sum::<usize>() / row.cases.len();
                 let [ours, rust, sheets] = row.times(call);
+                if counts::inside() {
+                    println!("{call}|{}|{}|{}", input.name, if matches!(call, "skip" | "strinc") { 2 } else { 3 }, row.cases.len());
+                    continue;
+                }
                 println!(
                     "| {call} | {} | {bytes} | {rust:.0} | {ours:.0} | {:.2} | {sheets:.0} | {:.2} |",
                     input.name,
