@@ -11,11 +11,12 @@ use borrow.Author.Tests.{eq-eqb, ne-eqb}
 use Rattle.format.specs.Tree.{Ty, Alts}
 use Rattle.format.specs.Sheet.{altCount, tyWords}
 use Rattle.format.specs.TypeSheet.{maxGroups, typeAt, nesting, altNestings}
-use Rattle.sheet.specs.Places.{Ends, Chosen, Picks, Plain, Rows}
+use Rattle.sheet.specs.Places.{Ends, Chosen, Picks, IsPlain, Plain, Rows}
 use Rattle.format.proofs.TypePlaces.{TypeIn, AltsIn, kind-is, union-in, alt-in}
 use Rattle.format.proofs.Choose.{choose, pick}
+use Rattle.format.proofs.Tests.{Test, holds, fails, ltb-test}
 use Rattle.sheet.proofs.EndLaws.{end-is}
-use Rattle.sheet.proofs.TypeWalk.{plain-end, plain-next, plain-first}
+use Rattle.sheet.proofs.TypeWalk.{none-left as type-none, plain-end, plain-next, plain-first}
 
 -- what is known of the alternatives that are left, up to e
 pub record Rest (w : List ℕ) (e left place : ℕ) (rest : Alts) : Type 0 where
@@ -116,6 +117,19 @@ module _ (w : List ℕ) (at tag : ℕ) where
                   subst (λ (p : ℕ). Rest w m (left - 1) p more) (sym (found w m left place x r t more a e)) (a .behind),
                   q ∙ ap (λ (b : Bool). pick b t more (choose tag more)) (ne-eqb x tag (λ z. n (same ∙ a .tag ∙ z))),
                 )
+
+-- no room for a tag and a type
+pub no-pair : (w : List ℕ) (at tag left place : ℕ) → Left w at tag left place → 0 < left → (l : ℕ) → length w - place < 2 → Picks w at tag 0 l
+no-pair w at tag left place inv some-left l h = go (ltb-test place (length w))
+  where
+    go : {t : Bool} → Test (place < length w) (length w ≤ place) t → Picks w at tag 0 l
+    go (holds k) = no-end w at tag left place inv some-left 0 (type-none w (place + 1) maxGroups (omega arith)) l refl
+    go (fails k) = no-room w at tag left place inv some-left l k
+
+-- a plain alternative without the tag is passed
+pub go-plain : (w : List ℕ) (at tag left place : ℕ) → Left w at tag left place → 0 < left → 2 ≤ length w - place → IsPlain (getD w (place + 1) 0) → (x : ℕ) → x ≡ getD w place 0 → (x ≡ tag → ⊥) → Left w at tag (left - 1) (place + 2)
+go-plain w at tag left place inv some-left h p x same n =
+    go-on w at tag left place inv some-left (place + 2) (plain-end w place maxGroups (omega arith) (p .0) (p .1)) x same n
 
 -- rows of plain alternatives without the tag are passed
 rows-left : (m : ℕ) (w : List ℕ) (at tag left place : ℕ) → Left w at tag left place → m ≤ left → place + 2 * m ≤ length w → Plain w place tag m → Left w at tag (left - m) (place + 2 * m)

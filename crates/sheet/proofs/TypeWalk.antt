@@ -1,13 +1,15 @@
 -- What each step of the walk over a type sheet finds.
 use Prim.Native.Nat.{ℕ, zero, suc, _+_, _-_, _*_, _≤_, _<_}
 use mathlib.Core.List.{List, [], _∷_}
+use mathlib.Core.Bool.{Bool}
 use mathlib.Core.Path.{_≡_, refl, ap, sym, _∙_, subst}
 use native.Mathlib.Omega.{arith}
 use lib.ListN.{length, drop, getD, drop-of-length-le}
 use Rattle.format.specs.Tree.{Ty, Tys, Alts}
 use Rattle.format.specs.TypeSheet.{Part, got, no, map, after, oneType, types, alts, typeAt}
 use Rattle.format.proofs.SheetPlaces.{front, front2}
-use Rattle.sheet.specs.Places.{Ends, Plain, Rows}
+use Rattle.format.proofs.Tests.{Test, holds, fails, ltb-test}
+use Rattle.sheet.specs.Places.{Ends, IsPlain, PlainTypes, Plain, Rows}
 
 -- ---- one type
 
@@ -167,6 +169,11 @@ something : {A : Type 0} (w : List ℕ) (low r : ℕ) (q : Part A) → Ends w lo
 something w low r (got a s) e z = (a, ap (got a) (e .0), e .1, e .2)
 something w low r no e z = absurd (z e)
 
+-- a place within the words, in either case
+pub inside : {A : Type 0} (w : List ℕ) (low r : ℕ) (q : Part A) → Ends w low q r → r ≤ length w
+inside w low r (got a s) e = e .2
+inside w low r no e = omega arith
+
 -- a run whose next type is q: it ends there, or goes on behind it
 module _ {B : Type 0} (all : Part B) (make : B → B) (q : Part Ty) (add : Ty → B → B) (rest : List ℕ → Part B) (is : all ≡ map make (after q (λ t s. map (add t) (rest s)))) where
   stops : q ≡ no → all ≡ no
@@ -218,6 +225,27 @@ module _ (w : List ℕ) (at count g left place : ℕ) (f : Fields w at count g l
             make = λ ts. f .make (Tys.AddTy (n .0) ts);
             all = goes _ (f .make) (typeAt g (drop place w)) Tys.AddTy (types (typeAt g) (left - 1)) one-field (n .0) (drop r w) (n .1);
           }
+
+-- plain fields, one after the other
+plain-on : (m : ℕ) (w : List ℕ) (at count g place : ℕ) → Fields w at count g m place → place + m ≤ length w → ((i : ℕ) → i < m → IsPlain (getD w (place + i) 0)) → Ends w at (types (typeAt g) count (drop at w)) (place + m)
+plain-on zero w at count g place f h p =
+    let b : place ≡ place + 0 = omega arith in
+    subst (λ (q : ℕ). Ends w at (types (typeAt g) count (drop at w)) q) b (fields-done w at count g 0 place f (omega arith))
+plain-on (suc m) w at count g place f h p =
+    let z : place + 0 ≡ place = omega arith in
+    let k = subst (λ (q : ℕ). IsPlain (getD w q 0)) z (p 0 (omega arith)) in
+    let e = scalar w place g (omega arith) (λ n. omega (arith, k .0)) (k .1) in
+    let d : suc m - 1 ≡ m = omega arith in
+    let o = subst (λ (n : ℕ). Fields w at count g n (place + 1)) d (fields-go w at count g (suc m) place f (omega arith) (place + 1) e (λ n. omega arith)) in
+    let more : (i : ℕ) → i < m → IsPlain (getD w (place + 1 + i) 0) = λ i l. let a : place + suc i ≡ place + 1 + i = omega arith in subst (λ (q : ℕ). IsPlain (getD w q 0)) a (p (suc i) (omega arith)) in
+    let b : place + 1 + m ≡ place + suc m = omega arith in
+    subst (λ (q : ℕ). Ends w at (types (typeAt g) count (drop at w)) q) b (plain-on m w at count g (place + 1) o (omega arith) more)
+
+pub plain-fields : (w : List ℕ) (at n g : ℕ) → PlainTypes w at n → Ends w at (types (typeAt g) n (drop at w)) (at + n)
+plain-fields w at n g p = plain-on n w at n g at (fields-start w at n g (omega (arith, p .inside))) (p .inside) (p .plain)
+
+pub plain-record : (w : List ℕ) (at g : ℕ) → at + 1 < length w → 4 < getD w at 0 → (g ≡ 0 → ⊥) → getD w at 0 ≡ 5 → PlainTypes w (at + 2) (getD w (at + 1) 0) → Ends w (at + 1) (typeAt g (drop at w)) (at + 2 + getD w (at + 1) 0)
+plain-record w at g next group gz k p = record-end w at g next group gz (at + 2 + getD w (at + 1) 0) k (plain-fields w (at + 2) (getD w (at + 1) 0) (g - 1) p)
 
 -- `count` alternatives from `at` on, of which `left` are left from `place` on
 pub record Others (w : List ℕ) (at count g left place : ℕ) : Type 0 where
@@ -281,6 +309,18 @@ pub plain-end : (w : List ℕ) (p g : ℕ) → p + 2 ≤ length w → 0 < getD w
 plain-end w p g h a b =
     let e : p + 1 + 1 ≡ p + 2 = omega arith in
     subst (λ (r : ℕ). Ends w (p + 1 + 1) (typeAt g (drop (p + 1) w)) r) e (scalar w (p + 1) g (omega arith) (λ z. omega arith) b)
+
+-- no room for a tag and a type
+pub alts-short : (w : List ℕ) (at count g left place : ℕ) → Others w at count g left place → 0 < left → length w - place < 2 → Ends w at (alts (typeAt g) count (drop at w)) 0
+alts-short w at count g left place f more h = go (ltb-test place (length w))
+  where
+    go : {t : Bool} → Test (place < length w) (length w ≤ place) t → Ends w at (alts (typeAt g) count (drop at w)) 0
+    go (holds l) = alts-fail w at count g left place f more l 0 (none-left w (place + 1) g (omega arith)) refl
+    go (fails l) = alts-out w at count g left place f more l
+
+-- a plain alternative more
+pub alts-plain : (w : List ℕ) (at count g left place : ℕ) → Others w at count g left place → 0 < left → 2 ≤ length w - place → IsPlain (getD w (place + 1) 0) → Others w at count g (left - 1) (place + 2)
+alts-plain w at count g left place f more h p = alts-go w at count g left place f more (omega arith) (place + 2) (plain-end w place g (omega arith) (p .0) (p .1)) (λ z. omega arith)
 
 -- plain alternatives behind the first
 pub plain-next : (w : List ℕ) (at tag m : ℕ) → Plain w at tag (suc m) → Plain w (at + 2) tag m

@@ -31,6 +31,15 @@ pub record PlainEnds (w : List ℕ) (at r : ℕ) : Type 0 where
 pub record RunEnds (w b : List ℕ) (at from r q : ℕ) : Type 0 where
   pub ends : (g : ℕ) → ValueEnds w b (at + 1) from (valueAt g (drop at w) (drop from b)) r q
 
+-- a plain kind: Int, Str or Bytes
+abbrev pub IsPlain : ℕ → Type 0
+IsPlain k = (0 < k) × (k < 4)
+
+-- the n types from `at` on are there, and plain
+pub record PlainTypes (w : List ℕ) (at n : ℕ) : Type 0 where
+  pub inside : at + n ≤ length w
+  pub plain : (i : ℕ) → i < n → IsPlain (getD w (at + i) 0)
+
 -- the n alternatives from `at` on are of plain types, Int, Str or Bytes, and none has the tag
 abbrev pub Plain : (w : List ℕ) (at tag n : ℕ) → Type 0
 Plain w at tag n = (i : ℕ) → i < n → (0 < getD w (at + 2 * i + 1) 0) × (getD w (at + 2 * i + 1) 0 < 4) × (getD w (at + 2 * i) 0 ≡ tag → ⊥)

@@ -1,4 +1,5 @@
 // A union's alternatives: the one with a tag, and the place behind some of them.
+use crate::rows::plain;
 use crate::rows::plain_rows;
 use crate::types::alternatives_end;
 use crate::types::type_end;
@@ -32,20 +33,25 @@ pub fn alternative(ty: &[u32], at: usize, tag: u64) -> Choice
     let mut left = count - rows;
     let mut place = at + 2 + 2 * (rows as usize);
     while left > 0 {
-        if place >= ty.len() {
+        if ty.len() - place < 2 {
             return Choice { place: 0, left: 0 };
         }
         let inside = place + 1;
-        left -= 1;
         if wide(ty[place]) == tag {
             return Choice {
                 place: inside,
-                left,
+                left: left - 1,
             };
         }
-        place = type_end(ty, inside, 320);
-        if place == 0 {
-            return Choice { place: 0, left: 0 };
+        if plain(ty[inside]) {
+            place += 2;
+            left -= 1;
+        } else {
+            place = type_end(ty, inside, 320);
+            if place == 0 {
+                return Choice { place: 0, left: 0 };
+            }
+            left -= 1;
         }
     }
     Choice { place: 0, left: 0 }

@@ -1,14 +1,40 @@
-// Alternatives of plain types (Int, Str, Bytes), passed in rows of eight: a row is tested with no exit inside, so that it becomes vector code.
+// Plain types (Int, Str, Bytes): a record's fields, and alternatives in rows of eight: a row is tested with no exit inside, so that it becomes vector code.
 ghost use mathlib.Core.Path.{_≡_};
 ghost use mathlib.Core.Bool.{true};
 ghost use Prim.Native.Nat.{_+_, _≤_};
 ghost use lib.ListN.{length};
-ghost use Rattle.sheet.specs.Places.{Plain, Rows};
+ghost use Rattle.sheet.specs.Places.{IsPlain, Plain, PlainTypes, Rows};
 
 fn wide(x: u32) -> u64
     ensures { λ r. ⌜ r ≡ x ⌝ }
 {
     x as u64
+}
+
+// Is a kind plain?
+pub fn plain(kind: u32) -> bool
+    ensures { λ r. ⌜ (r ≡ true → IsPlain kind) ⌝ }
+{
+    if kind == 0 { false } else { kind < 4 }
+}
+
+// Are the `count` types at a place there, and plain?
+pub fn plain_types(ty: &[u32], at: usize, count: u32) -> bool
+    requires { ⌜ at ≤ length (now ty) ⌝ }
+    ensures { λ r. ⌜ (r ≡ true → PlainTypes (now (ty .entry)) at count) ⌝ }
+{
+    let n = count as usize;
+    if ty.len() - at < n {
+        return false;
+    }
+    let mut i: usize = 0;
+    while i < n {
+        if !plain(ty[at + i]) {
+            return false;
+        }
+        i += 1;
+    }
+    true
 }
 
 // Are the eight alternatives at a place plain, and none with the tag?

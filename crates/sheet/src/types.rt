@@ -1,5 +1,7 @@
 // Type sheets: where a type ends, and whether a sheet is admitted.
+use crate::rows::plain;
 use crate::rows::plain_rows;
+use crate::rows::plain_types;
 ghost use mathlib.Core.Path.{_≡_};
 ghost use Prim.Native.Nat.{_+_, _≤_, _<_};
 ghost use lib.ListN.{length, drop, getD};
@@ -32,7 +34,7 @@ pub fn type_end(ty: &[u32], at: usize, groups: usize) -> usize
     group_end(ty, at, groups)
 }
 
-// The place behind the group at `at`; an unknown kind is none.
+// The place behind the group at `at`; an unknown kind is none. A record of plain fields is no further call.
 fn group_end(ty: &[u32], at: usize, groups: usize) -> usize
     requires { ⌜ (at + 1 < length (now ty)) × (4 < getD (now ty) at 0) ⌝ }
     ensures { λ r. ⌜ Ends (now (ty .entry)) (at + 1) (typeAt groups (drop at (now (ty .entry)))) r ⌝ }
@@ -43,6 +45,9 @@ fn group_end(ty: &[u32], at: usize, groups: usize) -> usize
     let kind = ty[at];
     let count = ty[at + 1];
     if kind == 5 {
+        if plain_types(ty, at + 2, count) {
+            return at + 2 + count as usize;
+        }
         return fields_end(ty, at + 2, count, groups - 1);
     }
     if kind == 6 {
@@ -68,7 +73,7 @@ fn fields_end(ty: &[u32], at: usize, count: u32, groups: usize) -> usize
     place
 }
 
-// The place behind `count` alternatives from `at` on; 0 if they do not stand there.
+// The place behind `count` alternatives from `at` on; 0 if they do not stand there. One of a plain type is passed in place.
 pub fn alternatives_end(ty: &[u32], at: usize, count: u32, groups: usize) -> usize
     requires { ⌜ at ≤ length (now ty) ⌝ }
     ensures { λ r. ⌜ Ends (now (ty .entry)) at (alts (typeAt groups) count (drop at (now (ty .entry)))) r ⌝ }
@@ -77,14 +82,19 @@ pub fn alternatives_end(ty: &[u32], at: usize, count: u32, groups: usize) -> usi
     let mut left = count - rows;
     let mut place = at + 2 * (rows as usize);
     while left > 0 {
-        if place >= ty.len() {
+        if ty.len() - place < 2 {
             return 0;
         }
-        place = type_end(ty, place + 1, groups);
-        if place == 0 {
-            return 0;
+        if plain(ty[place + 1]) {
+            place += 2;
+            left -= 1;
+        } else {
+            place = type_end(ty, place + 1, groups);
+            if place == 0 {
+                return 0;
+            }
+            left -= 1;
         }
-        left -= 1;
     }
     place
 }

@@ -1,87 +1,92 @@
 use borrow.Author.Needs.{needs}
 use native.Mathlib.Omega.{arith}
-use Rattle.sheet.proofs.AltWalk.{Left, no-union, no-count, past-rows, none-left, no-room, picked, no-end, go-on}
+use Prim.Native.Nat.{_+_, _≤_}
+use lib.ListN.{length, drop}
+use Rattle.format.specs.TypeSheet.{typeAt}
+use Rattle.sheet.proofs.TypeWalk.{inside}
+use Rattle.sheet.proofs.AltWalk.{Left, no-union, no-count, past-rows, none-left, no-pair, picked, no-end, go-on, go-plain}
 use Rattle.sheet.proofs.alternatives.alternative.Statement.{statement}
 use Rattle.sheet.proofs.alternatives.alternative.Tie as tie
 use Rattle.sheet.proofs.alternatives.alternative.Reads as reads
 use Rattle.sheet.proofs.alternatives.alternative.Lts as lts
 use Rattle.sheet.proofs.alternatives.wide.Reads as wide-reads
+use Rattle.sheet.proofs.rows.plain.Reads as plain-reads
 use Rattle.sheet.proofs.rows.plain_rows.Reads as plain-rows-reads
 use Rattle.sheet.proofs.types.type_end.Reads as type-end-reads
 
 abbrev Inv-loop : tie.InvT-loop
-Inv-loop ty at tag count rows left₀ place₀ left place = Left ty at tag left place
+Inv-loop ty at tag count rows left₀ place₀ left place = Left ty at tag left place × (place ≤ length ty)
 
 abbrev μ-loop : tie.MeasureT-loop
 μ-loop ty at tag count rows left₀ place₀ left place = left
 
--- src/alternatives.rt:25:9
+-- src/alternatives.rt:26:9
 returns : tie.Need-returns Inv-loop μ-loop
 returns c = search no-union
 
--- src/alternatives.rt:27:8
+-- src/alternatives.rt:28:8
 sub-if2 : tie.Need-sub-if2 Inv-loop μ-loop
 sub-if2 c = search needs
 
--- src/alternatives.rt:28:9
+-- src/alternatives.rt:29:9
 returns-2 : tie.Need-returns-2 Inv-loop μ-loop
 returns-2 c = search no-count
 
--- src/alternatives.rt:30:20
+-- src/alternatives.rt:31:20
 add-count : tie.Need-add-count Inv-loop μ-loop
 add-count c = search needs
 
--- src/alternatives.rt:30:17
+-- src/alternatives.rt:31:17
 mul-count : tie.Need-mul-count Inv-loop μ-loop
 mul-count c = search needs
 
--- src/alternatives.rt:30:17
+-- src/alternatives.rt:31:17
 shared-slice-read-count : tie.Need-shared-slice-read-count Inv-loop μ-loop
 shared-slice-read-count c = search needs
 
--- src/alternatives.rt:31:31
+-- src/alternatives.rt:32:31
 add-plain-rows : tie.Need-add-plain-rows Inv-loop μ-loop
 add-plain-rows c = search needs
 
--- src/alternatives.rt:31:9
+-- src/alternatives.rt:32:9
 plain-rows-requires : tie.Need-plain-rows-requires Inv-loop μ-loop
 plain-rows-requires c κs = omega arith
 
--- src/alternatives.rt:32:20
+-- src/alternatives.rt:33:20
 sub-left : tie.Need-sub-left Inv-loop μ-loop
 sub-left c = omega (arith, c .plain-rows .ensures .few)
 
--- src/alternatives.rt:33:21
+-- src/alternatives.rt:34:21
 add-place : tie.Need-add-place Inv-loop μ-loop
 add-place c = omega (arith, c .plain-rows .ensures .inside)
 
--- src/alternatives.rt:33:35
+-- src/alternatives.rt:34:35
 cast-place : tie.Need-cast-place Inv-loop μ-loop
 cast-place c = search needs
 
--- src/alternatives.rt:33:30
+-- src/alternatives.rt:34:30
 mul-place : tie.Need-mul-place Inv-loop μ-loop
 mul-place c = omega (arith, c .plain-rows .ensures .inside)
 
--- src/alternatives.rt:33:21
+-- src/alternatives.rt:34:21
 add-place-2 : tie.Need-add-place-2 Inv-loop μ-loop
 add-place-2 c = omega (arith, c .plain-rows .ensures .inside)
 
--- src/alternatives.rt:34:5
+-- src/alternatives.rt:35:5
 loop-holds : tie.Need-loop-holds Inv-loop μ-loop
-loop-holds c = search past-rows
+loop-holds c = (search past-rows, omega (arith, c .plain-rows .ensures .inside))
 
--- src/alternatives.rt:36:13
+-- src/alternatives.rt:36:12
+sub-if3 : tie.Need-sub-if3 Inv-loop μ-loop
+sub-if3 c = c .before .loop .inv .1
+
+-- src/alternatives.rt:37:13
 returns-3 : tie.Need-returns-3 Inv-loop μ-loop
-returns-3 c = search no-room
+returns-3 c = let inv = c .before .before .loop .inv .0 in search no-pair
 
--- src/alternatives.rt:38:22
+-- src/alternatives.rt:39:22
 add-inside : tie.Need-add-inside Inv-loop μ-loop
 add-inside c = search needs
-
--- src/alternatives.rt:39:9
-sub-left-2 : tie.Need-sub-left-2 Inv-loop μ-loop
-sub-left-2 c = search needs
 
 -- src/alternatives.rt:40:17
 mul-wide : tie.Need-mul-wide Inv-loop μ-loop
@@ -95,29 +100,65 @@ shared-slice-read-wide c = search needs
 wide-requires : tie.Need-wide-requires Inv-loop μ-loop
 wide-requires c κs = search needs
 
+-- src/alternatives.rt:43:23
+sub-t21 : tie.Need-sub-t21 Inv-loop μ-loop
+sub-t21 c = search needs
+
 -- src/alternatives.rt:41:13
 returns-4 : tie.Need-returns-4 Inv-loop μ-loop
-returns-4 c = search picked
+returns-4 c = let inv = c .before .before .before .before .before .loop .inv .0 in search picked
 
--- src/alternatives.rt:46:9
-type-end-requires : tie.Need-type-end-requires Inv-loop μ-loop
-type-end-requires c κs = search needs
+-- src/alternatives.rt:46:18
+mul-plain : tie.Need-mul-plain Inv-loop μ-loop
+mul-plain c = search needs
+
+-- src/alternatives.rt:46:18
+shared-slice-read-plain : tie.Need-shared-slice-read-plain Inv-loop μ-loop
+shared-slice-read-plain c = search needs
+
+-- src/alternatives.rt:46:12
+plain-requires : tie.Need-plain-requires Inv-loop μ-loop
+plain-requires c κs = search needs
+
+-- src/alternatives.rt:47:13
+add-place-3 : tie.Need-add-place-3 Inv-loop μ-loop
+add-place-3 c = omega arith
 
 -- src/alternatives.rt:48:13
-returns-5 : tie.Need-returns-5 Inv-loop μ-loop
-returns-5 c = search no-end
+sub-left-2 : tie.Need-sub-left-2 Inv-loop μ-loop
+sub-left-2 c = search needs
 
--- src/alternatives.rt:34:5
+-- src/alternatives.rt:35:5
 loop-less : tie.Need-loop-less Inv-loop μ-loop
 loop-less c = search needs
 
--- src/alternatives.rt:34:5
+-- src/alternatives.rt:35:5
 loop-again : tie.Need-loop-again Inv-loop μ-loop
-loop-again c = search go-on
+loop-again c = (go-plain (c .before .before .before .before .before .before .before .before .before .before .before .before .before .before .args .ty .now) (c .before .before .before .before .before .before .before .before .before .before .before .before .before .before .args .at) (c .before .before .before .before .before .before .before .before .before .before .before .before .before .before .args .tag) (c .before .before .before .before .before .before .before .before .loop .left) (c .before .before .before .before .before .before .before .before .loop .place) (c .before .before .before .before .before .before .before .before .loop .inv .0) (c .before .before .before .before .before .before .before .loop-test .taken) (c .before .before .before .before .before .before .if3 .left) (c .before .plain .ensures (c .if5 .taken)) (c .before .before .before .before .wide .result) (c .before .before .before .before .wide .ensures) (c .before .before .before .if4 .left), omega arith)
 
--- src/alternatives.rt:21:1
+-- src/alternatives.rt:50:13
+type-end-requires : tie.Need-type-end-requires Inv-loop μ-loop
+type-end-requires c κs = search needs
+
+-- src/alternatives.rt:52:17
+returns-5 : tie.Need-returns-5 Inv-loop μ-loop
+returns-5 c = let inv = c .before .before .before .before .before .before .before .before .before .before .loop .inv .0 in search no-end
+
+-- src/alternatives.rt:54:13
+sub-left-3 : tie.Need-sub-left-3 Inv-loop μ-loop
+sub-left-3 c = search needs
+
+-- src/alternatives.rt:35:5
+loop-less-2 : tie.Need-loop-less-2 Inv-loop μ-loop
+loop-less-2 c = search needs
+
+-- src/alternatives.rt:35:5
+loop-again-2 : tie.Need-loop-again-2 Inv-loop μ-loop
+loop-again-2 c = (go-on (c .before .before .before .before .before .before .before .before .before .before .before .before .before .before .before .before .args .ty .now) (c .before .before .before .before .before .before .before .before .before .before .before .before .before .before .before .before .args .at) (c .before .before .before .before .before .before .before .before .before .before .before .before .before .before .before .before .args .tag) (c .before .before .before .before .before .before .before .before .before .before .loop .left) (c .before .before .before .before .before .before .before .before .before .before .loop .place) (c .before .before .before .before .before .before .before .before .before .before .loop .inv .0) (c .before .before .before .before .before .before .before .before .before .loop-test .taken) (c .before .type-end .result) (c .before .type-end .ensures) (c .before .before .before .before .before .before .wide .result) (c .before .before .before .before .before .before .wide .ensures) (c .before .before .before .before .before .if4 .left), inside (c .before .before .before .before .before .before .before .before .before .before .before .before .before .before .before .before .args .ty .now) (c .before .before .before .before .before .before .before .before .before .before .loop .place + 1 + 1) (c .before .type-end .result) (typeAt 320 (drop (c .before .before .before .before .before .before .before .before .before .before .loop .place + 1) (c .before .before .before .before .before .before .before .before .before .before .before .before .before .before .before .before .args .ty .now))) (c .before .type-end .ensures))
+
+-- src/alternatives.rt:22:1
 returns-6 : tie.Need-returns-6 Inv-loop μ-loop
-returns-6 c = search none-left
+returns-6 c = let inv = c .before .loop .inv .0 in search none-left
 
 pub alternative-spec : {M : Type 1} → statement M
 alternative-spec =
@@ -139,15 +180,24 @@ alternative-spec =
     mul-place
     add-place-2
     loop-holds
+    sub-if3
     returns-3
     add-inside
-    sub-left-2
     mul-wide
     shared-slice-read-wide
     wide-requires
+    sub-t21
     returns-4
-    type-end-requires
-    returns-5
+    mul-plain
+    shared-slice-read-plain
+    plain-requires
+    add-place-3
+    sub-left-2
     loop-less
     loop-again
+    type-end-requires
+    returns-5
+    sub-left-3
+    loop-less-2
+    loop-again-2
     returns-6)

@@ -1,7 +1,8 @@
 use borrow.Author.Needs.{needs}
 use native.Mathlib.Omega.{arith}
-use Rattle.sheet.proofs.TypeWalk.{none-left, zero-kind, scalar, short, unknown, reference, too-deep, record-end, union-end, Fields, fields-start, fields-done, fields-fail, fields-go, Others, rows-start, alts-done, alts-fail, alts-go, alts-out}
+use Rattle.sheet.proofs.TypeWalk.{none-left, zero-kind, scalar, short, unknown, reference, too-deep, record-end, union-end, Fields, fields-start, fields-done, fields-fail, fields-go, Others, rows-start, alts-done, alts-fail, alts-go, alts-short, alts-plain, plain-record}
 use Prim.Native.Nat.{ℕ, _+_, _*_, _<_}
+use lib.ListN.{length}
 use borrow.Fn.Kinds.{In}
 use borrow.Fn.PlainCycle.{Measures, is, falls, and}
 use Rattle.sheet.proofs.types.alternatives_end.Reads as alternatives-end
@@ -16,7 +17,9 @@ use Rattle.sheet.proofs.types.+alternatives_end+fields_end+group_end+ty
 use Rattle.sheet.proofs.types.type_end.Reads as type-end
 use Rattle.sheet.proofs.types.type_end.Kinds as type-end-kinds
 use Rattle.sheet.proofs.types.+alternatives_end+fields_end+group_end+type_end.Lts-type_end as type-end-lts
+use Rattle.sheet.proofs.rows.plain.Reads as plain-reads
 use Rattle.sheet.proofs.rows.plain_rows.Reads as plain-rows-reads
+use Rattle.sheet.proofs.rows.plain_types.Reads as plain-types-reads
 use Rattle.sheet.proofs.types.+alternatives_end+fields_end+group_end+type_end.{statement}
 use Rattle.sheet.proofs.types.+alternatives_end+fields_end+group_end+type_end.Tie.{close}
 
@@ -76,60 +79,108 @@ alternatives-end-Inv-loop ty at count groups rows left₀ place₀ left place = 
 abbrev alternatives-end-μ-loop : alternatives-end-lts.MeasureT-loop
 alternatives-end-μ-loop ty at count groups rows left₀ place₀ left place = left
 
--- src/types.rt:76:9
-alternatives-end-plain-rows-requires : (t : ℕ) → alternatives-end-lts.Need-plain-rows-requires (plain-rows-reads.Asked, plain-rows-reads.Learnt, type-end-below t, type-end.Post) (alternatives-end-at t) alternatives-end.Post alternatives-end-Inv-loop alternatives-end-μ-loop
+-- src/types.rt:81:9
+alternatives-end-plain-rows-requires : (t : ℕ) → alternatives-end-lts.Need-plain-rows-requires (plain-rows-reads.Asked, plain-rows-reads.Learnt, plain-reads.Asked, plain-reads.Learnt, type-end-below t, type-end.Post) (alternatives-end-at t) alternatives-end.Post alternatives-end-Inv-loop alternatives-end-μ-loop
 alternatives-end-plain-rows-requires t c κs = omega arith
 
--- src/types.rt:77:20
-alternatives-end-sub-left : (t : ℕ) → alternatives-end-lts.Need-sub-left (plain-rows-reads.Asked, plain-rows-reads.Learnt, type-end-below t, type-end.Post) (alternatives-end-at t) alternatives-end.Post alternatives-end-Inv-loop alternatives-end-μ-loop
+-- src/types.rt:82:20
+alternatives-end-sub-left : (t : ℕ) → alternatives-end-lts.Need-sub-left (plain-rows-reads.Asked, plain-rows-reads.Learnt, plain-reads.Asked, plain-reads.Learnt, type-end-below t, type-end.Post) (alternatives-end-at t) alternatives-end.Post alternatives-end-Inv-loop alternatives-end-μ-loop
 alternatives-end-sub-left t c = omega (arith, c .plain-rows .ensures .few)
 
--- src/types.rt:78:31
-alternatives-end-cast-place : (t : ℕ) → alternatives-end-lts.Need-cast-place (plain-rows-reads.Asked, plain-rows-reads.Learnt, type-end-below t, type-end.Post) (alternatives-end-at t) alternatives-end.Post alternatives-end-Inv-loop alternatives-end-μ-loop
+-- src/types.rt:83:31
+alternatives-end-cast-place : (t : ℕ) → alternatives-end-lts.Need-cast-place (plain-rows-reads.Asked, plain-rows-reads.Learnt, plain-reads.Asked, plain-reads.Learnt, type-end-below t, type-end.Post) (alternatives-end-at t) alternatives-end.Post alternatives-end-Inv-loop alternatives-end-μ-loop
 alternatives-end-cast-place t c = search needs
 
--- src/types.rt:78:26
-alternatives-end-mul-place : (t : ℕ) → alternatives-end-lts.Need-mul-place (plain-rows-reads.Asked, plain-rows-reads.Learnt, type-end-below t, type-end.Post) (alternatives-end-at t) alternatives-end.Post alternatives-end-Inv-loop alternatives-end-μ-loop
+-- src/types.rt:83:26
+alternatives-end-mul-place : (t : ℕ) → alternatives-end-lts.Need-mul-place (plain-rows-reads.Asked, plain-rows-reads.Learnt, plain-reads.Asked, plain-reads.Learnt, type-end-below t, type-end.Post) (alternatives-end-at t) alternatives-end.Post alternatives-end-Inv-loop alternatives-end-μ-loop
 alternatives-end-mul-place t c = omega (arith, c .plain-rows .ensures .inside)
 
--- src/types.rt:78:21
-alternatives-end-add-place : (t : ℕ) → alternatives-end-lts.Need-add-place (plain-rows-reads.Asked, plain-rows-reads.Learnt, type-end-below t, type-end.Post) (alternatives-end-at t) alternatives-end.Post alternatives-end-Inv-loop alternatives-end-μ-loop
+-- src/types.rt:83:21
+alternatives-end-add-place : (t : ℕ) → alternatives-end-lts.Need-add-place (plain-rows-reads.Asked, plain-rows-reads.Learnt, plain-reads.Asked, plain-reads.Learnt, type-end-below t, type-end.Post) (alternatives-end-at t) alternatives-end.Post alternatives-end-Inv-loop alternatives-end-μ-loop
 alternatives-end-add-place t c = omega (arith, c .plain-rows .ensures .inside)
 
--- src/types.rt:79:5
-alternatives-end-loop-holds : (t : ℕ) → alternatives-end-lts.Need-loop-holds (plain-rows-reads.Asked, plain-rows-reads.Learnt, type-end-below t, type-end.Post) (alternatives-end-at t) alternatives-end.Post alternatives-end-Inv-loop alternatives-end-μ-loop
+-- src/types.rt:84:5
+alternatives-end-loop-holds : (t : ℕ) → alternatives-end-lts.Need-loop-holds (plain-rows-reads.Asked, plain-rows-reads.Learnt, plain-reads.Asked, plain-reads.Learnt, type-end-below t, type-end.Post) (alternatives-end-at t) alternatives-end.Post alternatives-end-Inv-loop alternatives-end-μ-loop
 alternatives-end-loop-holds t c = search rows-start
 
--- src/types.rt:81:13
-alternatives-end-returns : (t : ℕ) → alternatives-end-lts.Need-returns (plain-rows-reads.Asked, plain-rows-reads.Learnt, type-end-below t, type-end.Post) (alternatives-end-at t) alternatives-end.Post alternatives-end-Inv-loop alternatives-end-μ-loop
-alternatives-end-returns t c = search alts-out
+-- src/types.rt:85:12
+alternatives-end-sub-if1 : (t : ℕ) → alternatives-end-lts.Need-sub-if1 (plain-rows-reads.Asked, plain-rows-reads.Learnt, plain-reads.Asked, plain-reads.Learnt, type-end-below t, type-end.Post) (alternatives-end-at t) alternatives-end.Post alternatives-end-Inv-loop alternatives-end-μ-loop
+alternatives-end-sub-if1 t c = search needs
 
--- src/types.rt:83:30
-alternatives-end-add-type-end : (t : ℕ) → alternatives-end-lts.Need-add-type-end (plain-rows-reads.Asked, plain-rows-reads.Learnt, type-end-below t, type-end.Post) (alternatives-end-at t) alternatives-end.Post alternatives-end-Inv-loop alternatives-end-μ-loop
-alternatives-end-add-type-end t c = search needs
+-- src/types.rt:86:13
+alternatives-end-returns : (t : ℕ) → alternatives-end-lts.Need-returns (plain-rows-reads.Asked, plain-rows-reads.Learnt, plain-reads.Asked, plain-reads.Learnt, type-end-below t, type-end.Post) (alternatives-end-at t) alternatives-end.Post alternatives-end-Inv-loop alternatives-end-μ-loop
+alternatives-end-returns t c = search alts-short
 
--- src/types.rt:83:9
-alternatives-end-type-end-requires : (t : ℕ) → alternatives-end-lts.Need-type-end-requires (plain-rows-reads.Asked, plain-rows-reads.Learnt, type-end-below t, type-end.Post) (alternatives-end-at t) alternatives-end.Post alternatives-end-Inv-loop alternatives-end-μ-loop
-alternatives-end-type-end-requires t c κs = (omega arith, tt)
+-- src/types.rt:88:21
+alternatives-end-add-plain : (t : ℕ) → alternatives-end-lts.Need-add-plain (plain-rows-reads.Asked, plain-rows-reads.Learnt, plain-reads.Asked, plain-reads.Learnt, type-end-below t, type-end.Post) (alternatives-end-at t) alternatives-end.Post alternatives-end-Inv-loop alternatives-end-μ-loop
+alternatives-end-add-plain t c = search needs
 
--- src/types.rt:85:13
-alternatives-end-returns-2 : (t : ℕ) → alternatives-end-lts.Need-returns-2 (plain-rows-reads.Asked, plain-rows-reads.Learnt, type-end-below t, type-end.Post) (alternatives-end-at t) alternatives-end.Post alternatives-end-Inv-loop alternatives-end-μ-loop
-alternatives-end-returns-2 t c = search alts-fail
+-- src/types.rt:88:18
+alternatives-end-mul-plain : (t : ℕ) → alternatives-end-lts.Need-mul-plain (plain-rows-reads.Asked, plain-rows-reads.Learnt, plain-reads.Asked, plain-reads.Learnt, type-end-below t, type-end.Post) (alternatives-end-at t) alternatives-end.Post alternatives-end-Inv-loop alternatives-end-μ-loop
+alternatives-end-mul-plain t c = search needs
 
--- src/types.rt:87:9
-alternatives-end-sub-left-2 : (t : ℕ) → alternatives-end-lts.Need-sub-left-2 (plain-rows-reads.Asked, plain-rows-reads.Learnt, type-end-below t, type-end.Post) (alternatives-end-at t) alternatives-end.Post alternatives-end-Inv-loop alternatives-end-μ-loop
+-- src/types.rt:88:18
+alternatives-end-shared-slice-read-plain :
+    (t : ℕ) → alternatives-end-lts.Need-shared-slice-read-plain (
+      plain-rows-reads.Asked,
+      plain-rows-reads.Learnt,
+      plain-reads.Asked,
+      plain-reads.Learnt,
+      type-end-below t,
+      type-end.Post,
+    )
+    (alternatives-end-at t)
+    alternatives-end.Post
+    alternatives-end-Inv-loop
+    alternatives-end-μ-loop
+alternatives-end-shared-slice-read-plain t c = search needs
+
+-- src/types.rt:88:12
+alternatives-end-plain-requires : (t : ℕ) → alternatives-end-lts.Need-plain-requires (plain-rows-reads.Asked, plain-rows-reads.Learnt, plain-reads.Asked, plain-reads.Learnt, type-end-below t, type-end.Post) (alternatives-end-at t) alternatives-end.Post alternatives-end-Inv-loop alternatives-end-μ-loop
+alternatives-end-plain-requires t c κs = search needs
+
+-- src/types.rt:89:13
+alternatives-end-add-place-2 : (t : ℕ) → alternatives-end-lts.Need-add-place-2 (plain-rows-reads.Asked, plain-rows-reads.Learnt, plain-reads.Asked, plain-reads.Learnt, type-end-below t, type-end.Post) (alternatives-end-at t) alternatives-end.Post alternatives-end-Inv-loop alternatives-end-μ-loop
+alternatives-end-add-place-2 t c = omega arith
+
+-- src/types.rt:90:13
+alternatives-end-sub-left-2 : (t : ℕ) → alternatives-end-lts.Need-sub-left-2 (plain-rows-reads.Asked, plain-rows-reads.Learnt, plain-reads.Asked, plain-reads.Learnt, type-end-below t, type-end.Post) (alternatives-end-at t) alternatives-end.Post alternatives-end-Inv-loop alternatives-end-μ-loop
 alternatives-end-sub-left-2 t c = search needs
 
--- src/types.rt:79:5
-alternatives-end-loop-less : (t : ℕ) → alternatives-end-lts.Need-loop-less (plain-rows-reads.Asked, plain-rows-reads.Learnt, type-end-below t, type-end.Post) (alternatives-end-at t) alternatives-end.Post alternatives-end-Inv-loop alternatives-end-μ-loop
+-- src/types.rt:84:5
+alternatives-end-loop-less : (t : ℕ) → alternatives-end-lts.Need-loop-less (plain-rows-reads.Asked, plain-rows-reads.Learnt, plain-reads.Asked, plain-reads.Learnt, type-end-below t, type-end.Post) (alternatives-end-at t) alternatives-end.Post alternatives-end-Inv-loop alternatives-end-μ-loop
 alternatives-end-loop-less t c = search needs
 
--- src/types.rt:79:5
-alternatives-end-loop-again : (t : ℕ) → alternatives-end-lts.Need-loop-again (plain-rows-reads.Asked, plain-rows-reads.Learnt, type-end-below t, type-end.Post) (alternatives-end-at t) alternatives-end.Post alternatives-end-Inv-loop alternatives-end-μ-loop
-alternatives-end-loop-again t c = search alts-go
+-- src/types.rt:84:5
+alternatives-end-loop-again : (t : ℕ) → alternatives-end-lts.Need-loop-again (plain-rows-reads.Asked, plain-rows-reads.Learnt, plain-reads.Asked, plain-reads.Learnt, type-end-below t, type-end.Post) (alternatives-end-at t) alternatives-end.Post alternatives-end-Inv-loop alternatives-end-μ-loop
+alternatives-end-loop-again t c = let p = c .before .plain .ensures (c .if2 .taken) in search alts-plain
 
--- src/types.rt:72:1
-alternatives-end-returns-3 : (t : ℕ) → alternatives-end-lts.Need-returns-3 (plain-rows-reads.Asked, plain-rows-reads.Learnt, type-end-below t, type-end.Post) (alternatives-end-at t) alternatives-end.Post alternatives-end-Inv-loop alternatives-end-μ-loop
+-- src/types.rt:92:34
+alternatives-end-add-type-end : (t : ℕ) → alternatives-end-lts.Need-add-type-end (plain-rows-reads.Asked, plain-rows-reads.Learnt, plain-reads.Asked, plain-reads.Learnt, type-end-below t, type-end.Post) (alternatives-end-at t) alternatives-end.Post alternatives-end-Inv-loop alternatives-end-μ-loop
+alternatives-end-add-type-end t c = search needs
+
+-- src/types.rt:92:13
+alternatives-end-type-end-requires : (t : ℕ) → alternatives-end-lts.Need-type-end-requires (plain-rows-reads.Asked, plain-rows-reads.Learnt, plain-reads.Asked, plain-reads.Learnt, type-end-below t, type-end.Post) (alternatives-end-at t) alternatives-end.Post alternatives-end-Inv-loop alternatives-end-μ-loop
+alternatives-end-type-end-requires t c κs = (omega arith, tt)
+
+-- src/types.rt:94:17
+alternatives-end-returns-2 : (t : ℕ) → alternatives-end-lts.Need-returns-2 (plain-rows-reads.Asked, plain-rows-reads.Learnt, plain-reads.Asked, plain-reads.Learnt, type-end-below t, type-end.Post) (alternatives-end-at t) alternatives-end.Post alternatives-end-Inv-loop alternatives-end-μ-loop
+alternatives-end-returns-2 t c = let here : c .before .before .before .before .before .before .before .loop .place < length (c .before .before .before .before .before .before .before .before .before .before .args .ty .now) = omega arith in search alts-fail
+
+-- src/types.rt:96:13
+alternatives-end-sub-left-3 : (t : ℕ) → alternatives-end-lts.Need-sub-left-3 (plain-rows-reads.Asked, plain-rows-reads.Learnt, plain-reads.Asked, plain-reads.Learnt, type-end-below t, type-end.Post) (alternatives-end-at t) alternatives-end.Post alternatives-end-Inv-loop alternatives-end-μ-loop
+alternatives-end-sub-left-3 t c = search needs
+
+-- src/types.rt:84:5
+alternatives-end-loop-less-2 : (t : ℕ) → alternatives-end-lts.Need-loop-less-2 (plain-rows-reads.Asked, plain-rows-reads.Learnt, plain-reads.Asked, plain-reads.Learnt, type-end-below t, type-end.Post) (alternatives-end-at t) alternatives-end.Post alternatives-end-Inv-loop alternatives-end-μ-loop
+alternatives-end-loop-less-2 t c = search needs
+
+-- src/types.rt:84:5
+alternatives-end-loop-again-2 : (t : ℕ) → alternatives-end-lts.Need-loop-again-2 (plain-rows-reads.Asked, plain-rows-reads.Learnt, plain-reads.Asked, plain-reads.Learnt, type-end-below t, type-end.Post) (alternatives-end-at t) alternatives-end.Post alternatives-end-Inv-loop alternatives-end-μ-loop
+alternatives-end-loop-again-2 t c = let here : c .before .before .before .before .before .before .before .loop .place < length (c .before .before .before .before .before .before .before .before .before .before .args .ty .now) = omega arith in search alts-go
+
+-- src/types.rt:77:1
+alternatives-end-returns-3 : (t : ℕ) → alternatives-end-lts.Need-returns-3 (plain-rows-reads.Asked, plain-rows-reads.Learnt, plain-reads.Asked, plain-reads.Learnt, type-end-below t, type-end.Post) (alternatives-end-at t) alternatives-end.Post alternatives-end-Inv-loop alternatives-end-μ-loop
 alternatives-end-returns-3 t c = search alts-done
 
 abbrev fields-end-Inv-loop : fields-end-lts.InvT-loop
@@ -138,7 +189,7 @@ fields-end-Inv-loop ty at count groups left₀ place₀ left place = Fields ty a
 abbrev fields-end-μ-loop : fields-end-lts.MeasureT-loop
 fields-end-μ-loop ty at count groups left₀ place₀ left place = left
 
--- src/types.rt:61:5
+-- src/types.rt:66:5
 fields-end-loop-holds :
     (t : ℕ) →
     fields-end-lts.Need-loop-holds
@@ -149,11 +200,11 @@ fields-end-loop-holds :
     fields-end-μ-loop
 fields-end-loop-holds t c = search fields-start
 
--- src/types.rt:62:9
+-- src/types.rt:67:9
 fields-end-type-end-requires : (t : ℕ) → fields-end-lts.Need-type-end-requires (type-end-below t, type-end.Post) (fields-end-at t) fields-end.Post fields-end-Inv-loop fields-end-μ-loop
 fields-end-type-end-requires t c κs = (omega arith, tt)
 
--- src/types.rt:64:13
+-- src/types.rt:69:13
 fields-end-returns :
     (t : ℕ) →
     fields-end-lts.Need-returns
@@ -164,7 +215,7 @@ fields-end-returns :
     fields-end-μ-loop
 fields-end-returns t c = search fields-fail
 
--- src/types.rt:66:9
+-- src/types.rt:71:9
 fields-end-sub-left :
     (t : ℕ) →
     fields-end-lts.Need-sub-left
@@ -175,7 +226,7 @@ fields-end-sub-left :
     fields-end-μ-loop
 fields-end-sub-left t c = search needs
 
--- src/types.rt:61:5
+-- src/types.rt:66:5
 fields-end-loop-less :
     (t : ℕ) →
     fields-end-lts.Need-loop-less
@@ -186,7 +237,7 @@ fields-end-loop-less :
     fields-end-μ-loop
 fields-end-loop-less t c = search needs
 
--- src/types.rt:61:5
+-- src/types.rt:66:5
 fields-end-loop-again :
     (t : ℕ) →
     fields-end-lts.Need-loop-again
@@ -197,7 +248,7 @@ fields-end-loop-again :
     fields-end-μ-loop
 fields-end-loop-again t c = search fields-go
 
--- src/types.rt:55:1
+-- src/types.rt:60:1
 fields-end-returns-2 :
     (t : ℕ) →
     fields-end-lts.Need-returns-2
@@ -208,127 +259,151 @@ fields-end-returns-2 :
     fields-end-μ-loop
 fields-end-returns-2 t c = search fields-done
 
--- src/types.rt:41:9
-group-end-returns : (t : ℕ) → group-end-lts.Need-returns (fields-end-below t, fields-end.Post, alternatives-end-below t, alternatives-end.Post) (group-end-at t) group-end.Post
+-- src/types.rt:43:9
+group-end-returns : (t : ℕ) → group-end-lts.Need-returns (plain-types-reads.Asked, plain-types-reads.Learnt, fields-end-below t, fields-end.Post, alternatives-end-below t, alternatives-end.Post) (group-end-at t) group-end.Post
 group-end-returns t c = search too-deep
 
--- src/types.rt:43:16
-group-end-mul-kind : (t : ℕ) → group-end-lts.Need-mul-kind (fields-end-below t, fields-end.Post, alternatives-end-below t, alternatives-end.Post) (group-end-at t) group-end.Post
+-- src/types.rt:45:16
+group-end-mul-kind : (t : ℕ) → group-end-lts.Need-mul-kind (plain-types-reads.Asked, plain-types-reads.Learnt, fields-end-below t, fields-end.Post, alternatives-end-below t, alternatives-end.Post) (group-end-at t) group-end.Post
 group-end-mul-kind t c = search needs
 
--- src/types.rt:43:16
-group-end-shared-slice-read-kind : (t : ℕ) → group-end-lts.Need-shared-slice-read-kind (fields-end-below t, fields-end.Post, alternatives-end-below t, alternatives-end.Post) (group-end-at t) group-end.Post
+-- src/types.rt:45:16
+group-end-shared-slice-read-kind : (t : ℕ) → group-end-lts.Need-shared-slice-read-kind (plain-types-reads.Asked, plain-types-reads.Learnt, fields-end-below t, fields-end.Post, alternatives-end-below t, alternatives-end.Post) (group-end-at t) group-end.Post
 group-end-shared-slice-read-kind t c = search needs
 
--- src/types.rt:44:20
-group-end-add-count : (t : ℕ) → group-end-lts.Need-add-count (fields-end-below t, fields-end.Post, alternatives-end-below t, alternatives-end.Post) (group-end-at t) group-end.Post
+-- src/types.rt:46:20
+group-end-add-count : (t : ℕ) → group-end-lts.Need-add-count (plain-types-reads.Asked, plain-types-reads.Learnt, fields-end-below t, fields-end.Post, alternatives-end-below t, alternatives-end.Post) (group-end-at t) group-end.Post
 group-end-add-count t c = search needs
 
--- src/types.rt:44:17
-group-end-mul-count : (t : ℕ) → group-end-lts.Need-mul-count (fields-end-below t, fields-end.Post, alternatives-end-below t, alternatives-end.Post) (group-end-at t) group-end.Post
+-- src/types.rt:46:17
+group-end-mul-count : (t : ℕ) → group-end-lts.Need-mul-count (plain-types-reads.Asked, plain-types-reads.Learnt, fields-end-below t, fields-end.Post, alternatives-end-below t, alternatives-end.Post) (group-end-at t) group-end.Post
 group-end-mul-count t c = search needs
 
--- src/types.rt:44:17
-group-end-shared-slice-read-count : (t : ℕ) → group-end-lts.Need-shared-slice-read-count (fields-end-below t, fields-end.Post, alternatives-end-below t, alternatives-end.Post) (group-end-at t) group-end.Post
+-- src/types.rt:46:17
+group-end-shared-slice-read-count : (t : ℕ) → group-end-lts.Need-shared-slice-read-count (plain-types-reads.Asked, plain-types-reads.Learnt, fields-end-below t, fields-end.Post, alternatives-end-below t, alternatives-end.Post) (group-end-at t) group-end.Post
 group-end-shared-slice-read-count t c = search needs
 
--- src/types.rt:46:31
-group-end-add-fields-end : (t : ℕ) → group-end-lts.Need-add-fields-end (fields-end-below t, fields-end.Post, alternatives-end-below t, alternatives-end.Post) (group-end-at t) group-end.Post
+-- src/types.rt:48:28
+group-end-add-plain-types : (t : ℕ) → group-end-lts.Need-add-plain-types (plain-types-reads.Asked, plain-types-reads.Learnt, fields-end-below t, fields-end.Post, alternatives-end-below t, alternatives-end.Post) (group-end-at t) group-end.Post
+group-end-add-plain-types t c = search needs
+
+-- src/types.rt:48:12
+group-end-plain-types-requires : (t : ℕ) → group-end-lts.Need-plain-types-requires (plain-types-reads.Asked, plain-types-reads.Learnt, fields-end-below t, fields-end.Post, alternatives-end-below t, alternatives-end.Post) (group-end-at t) group-end.Post
+group-end-plain-types-requires t c κs = omega arith
+
+-- src/types.rt:49:20
+group-end-add-result : (t : ℕ) → group-end-lts.Need-add-result (plain-types-reads.Asked, plain-types-reads.Learnt, fields-end-below t, fields-end.Post, alternatives-end-below t, alternatives-end.Post) (group-end-at t) group-end.Post
+group-end-add-result t c = search needs
+
+-- src/types.rt:49:29
+group-end-cast-result : (t : ℕ) → group-end-lts.Need-cast-result (plain-types-reads.Asked, plain-types-reads.Learnt, fields-end-below t, fields-end.Post, alternatives-end-below t, alternatives-end.Post) (group-end-at t) group-end.Post
+group-end-cast-result t c = let k = c .before .before .before .shared-slice-known3 .given (c .before .before .before .before .before .before .before .args .at + 1) in search needs
+
+-- src/types.rt:49:20
+group-end-add-result-2 : (t : ℕ) → group-end-lts.Need-add-result-2 (plain-types-reads.Asked, plain-types-reads.Learnt, fields-end-below t, fields-end.Post, alternatives-end-below t, alternatives-end.Post) (group-end-at t) group-end.Post
+group-end-add-result-2 t c = omega (arith, c .before .plain-types .ensures (c .if3 .taken) .inside)
+
+-- src/types.rt:49:13
+group-end-returns-2 : (t : ℕ) → group-end-lts.Need-returns-2 (plain-types-reads.Asked, plain-types-reads.Learnt, fields-end-below t, fields-end.Post, alternatives-end-below t, alternatives-end.Post) (group-end-at t) group-end.Post
+group-end-returns-2 t c = let p = c .before .plain-types .ensures (c .if3 .taken) in search plain-record
+
+-- src/types.rt:51:31
+group-end-add-fields-end : (t : ℕ) → group-end-lts.Need-add-fields-end (plain-types-reads.Asked, plain-types-reads.Learnt, fields-end-below t, fields-end.Post, alternatives-end-below t, alternatives-end.Post) (group-end-at t) group-end.Post
 group-end-add-fields-end t c = search needs
 
--- src/types.rt:46:46
-group-end-sub-fields-end : (t : ℕ) → group-end-lts.Need-sub-fields-end (fields-end-below t, fields-end.Post, alternatives-end-below t, alternatives-end.Post) (group-end-at t) group-end.Post
+-- src/types.rt:51:46
+group-end-sub-fields-end : (t : ℕ) → group-end-lts.Need-sub-fields-end (plain-types-reads.Asked, plain-types-reads.Learnt, fields-end-below t, fields-end.Post, alternatives-end-below t, alternatives-end.Post) (group-end-at t) group-end.Post
 group-end-sub-fields-end t c = search needs
 
--- src/types.rt:46:9
-group-end-fields-end-requires : (t : ℕ) → group-end-lts.Need-fields-end-requires (fields-end-below t, fields-end.Post, alternatives-end-below t, alternatives-end.Post) (group-end-at t) group-end.Post
+-- src/types.rt:51:9
+group-end-fields-end-requires : (t : ℕ) → group-end-lts.Need-fields-end-requires (plain-types-reads.Asked, plain-types-reads.Learnt, fields-end-below t, fields-end.Post, alternatives-end-below t, alternatives-end.Post) (group-end-at t) group-end.Post
 group-end-fields-end-requires t c κs = (omega arith, omega arith)
 
--- src/types.rt:46:9
-group-end-returns-2 : (t : ℕ) → group-end-lts.Need-returns-2 (fields-end-below t, fields-end.Post, alternatives-end-below t, alternatives-end.Post) (group-end-at t) group-end.Post
-group-end-returns-2 t c = search record-end
+-- src/types.rt:51:9
+group-end-returns-3 : (t : ℕ) → group-end-lts.Need-returns-3 (plain-types-reads.Asked, plain-types-reads.Learnt, fields-end-below t, fields-end.Post, alternatives-end-below t, alternatives-end.Post) (group-end-at t) group-end.Post
+group-end-returns-3 t c = search record-end
 
--- src/types.rt:49:37
-group-end-add-alternatives-end : (t : ℕ) → group-end-lts.Need-add-alternatives-end (fields-end-below t, fields-end.Post, alternatives-end-below t, alternatives-end.Post) (group-end-at t) group-end.Post
+-- src/types.rt:54:37
+group-end-add-alternatives-end : (t : ℕ) → group-end-lts.Need-add-alternatives-end (plain-types-reads.Asked, plain-types-reads.Learnt, fields-end-below t, fields-end.Post, alternatives-end-below t, alternatives-end.Post) (group-end-at t) group-end.Post
 group-end-add-alternatives-end t c = search needs
 
--- src/types.rt:49:52
-group-end-sub-alternatives-end : (t : ℕ) → group-end-lts.Need-sub-alternatives-end (fields-end-below t, fields-end.Post, alternatives-end-below t, alternatives-end.Post) (group-end-at t) group-end.Post
+-- src/types.rt:54:52
+group-end-sub-alternatives-end : (t : ℕ) → group-end-lts.Need-sub-alternatives-end (plain-types-reads.Asked, plain-types-reads.Learnt, fields-end-below t, fields-end.Post, alternatives-end-below t, alternatives-end.Post) (group-end-at t) group-end.Post
 group-end-sub-alternatives-end t c = search needs
 
--- src/types.rt:49:9
-group-end-alternatives-end-requires : (t : ℕ) → group-end-lts.Need-alternatives-end-requires (fields-end-below t, fields-end.Post, alternatives-end-below t, alternatives-end.Post) (group-end-at t) group-end.Post
+-- src/types.rt:54:9
+group-end-alternatives-end-requires : (t : ℕ) → group-end-lts.Need-alternatives-end-requires (plain-types-reads.Asked, plain-types-reads.Learnt, fields-end-below t, fields-end.Post, alternatives-end-below t, alternatives-end.Post) (group-end-at t) group-end.Post
 group-end-alternatives-end-requires t c κs = (omega arith, omega arith)
 
--- src/types.rt:49:9
-group-end-returns-3 : (t : ℕ) → group-end-lts.Need-returns-3 (fields-end-below t, fields-end.Post, alternatives-end-below t, alternatives-end.Post) (group-end-at t) group-end.Post
-group-end-returns-3 t c = search union-end
+-- src/types.rt:54:9
+group-end-returns-4 : (t : ℕ) → group-end-lts.Need-returns-4 (plain-types-reads.Asked, plain-types-reads.Learnt, fields-end-below t, fields-end.Post, alternatives-end-below t, alternatives-end.Post) (group-end-at t) group-end.Post
+group-end-returns-4 t c = search union-end
 
--- src/types.rt:36:1
-group-end-returns-4 : (t : ℕ) → group-end-lts.Need-returns-4 (fields-end-below t, fields-end.Post, alternatives-end-below t, alternatives-end.Post) (group-end-at t) group-end.Post
-group-end-returns-4 t c = search unknown
+-- src/types.rt:38:1
+group-end-returns-5 : (t : ℕ) → group-end-lts.Need-returns-5 (plain-types-reads.Asked, plain-types-reads.Learnt, fields-end-below t, fields-end.Post, alternatives-end-below t, alternatives-end.Post) (group-end-at t) group-end.Post
+group-end-returns-5 t c = search unknown
 
--- src/types.rt:17:9
+-- src/types.rt:19:9
 type-end-returns :
     (t : ℕ) →
     type-end-lts.Need-returns (group-end-below t, group-end.Post) (type-end-at t) type-end.Post
 type-end-returns t c = search none-left
 
--- src/types.rt:19:16
+-- src/types.rt:21:16
 type-end-mul-kind :
     (t : ℕ) →
     type-end-lts.Need-mul-kind (group-end-below t, group-end.Post) (type-end-at t) type-end.Post
 type-end-mul-kind t c = search needs
 
--- src/types.rt:19:16
+-- src/types.rt:21:16
 type-end-shared-slice-read-kind : (t : ℕ) → type-end-lts.Need-shared-slice-read-kind (group-end-below t, group-end.Post) (type-end-at t) type-end.Post
 type-end-shared-slice-read-kind t c = search needs
 
--- src/types.rt:21:9
+-- src/types.rt:23:9
 type-end-returns-2 :
     (t : ℕ) →
     type-end-lts.Need-returns-2 (group-end-below t, group-end.Post) (type-end-at t) type-end.Post
 type-end-returns-2 t c = search zero-kind
 
--- src/types.rt:24:16
+-- src/types.rt:26:16
 type-end-add-result :
     (t : ℕ) →
     type-end-lts.Need-add-result (group-end-below t, group-end.Post) (type-end-at t) type-end.Post
 type-end-add-result t c = search needs
 
--- src/types.rt:24:9
+-- src/types.rt:26:9
 type-end-returns-3 :
     (t : ℕ) →
     type-end-lts.Need-returns-3 (group-end-below t, group-end.Post) (type-end-at t) type-end.Post
 type-end-returns-3 t c = search scalar
 
--- src/types.rt:26:8
+-- src/types.rt:28:8
 type-end-sub-if4 :
     (t : ℕ) →
     type-end-lts.Need-sub-if4 (group-end-below t, group-end.Post) (type-end-at t) type-end.Post
 type-end-sub-if4 t c = search needs
 
--- src/types.rt:27:9
+-- src/types.rt:29:9
 type-end-returns-4 :
     (t : ℕ) →
     type-end-lts.Need-returns-4 (group-end-below t, group-end.Post) (type-end-at t) type-end.Post
 type-end-returns-4 t c = search short
 
--- src/types.rt:30:16
+-- src/types.rt:32:16
 type-end-add-result-2 : (t : ℕ) → type-end-lts.Need-add-result-2 (group-end-below t, group-end.Post) (type-end-at t) type-end.Post
 type-end-add-result-2 t c = search needs
 
--- src/types.rt:30:9
+-- src/types.rt:32:9
 type-end-returns-5 :
     (t : ℕ) →
     type-end-lts.Need-returns-5 (group-end-below t, group-end.Post) (type-end-at t) type-end.Post
 type-end-returns-5 t c = search reference
 
--- src/types.rt:32:5
+-- src/types.rt:34:5
 type-end-group-end-requires : (t : ℕ) → type-end-lts.Need-group-end-requires (group-end-below t, group-end.Post) (type-end-at t) type-end.Post
 type-end-group-end-requires t c κs = (omega arith, (omega arith, omega arith))
 
--- src/types.rt:13:1
+-- src/types.rt:15:1
 type-end-returns-6 :
     (t : ℕ) →
     type-end-lts.Need-returns-6 (group-end-below t, group-end.Post) (type-end-at t) type-end.Post
@@ -339,6 +414,8 @@ pub +alternatives-end+fields-end+group-end+type-end-spec : {M : Type 1} → stat
     close μ-alternatives-end μ-fields-end μ-group-end μ-type-end (λ t. alternatives-end-lts.spec (
       plain-rows-reads.Asked,
       plain-rows-reads.Learnt,
+      plain-reads.Asked,
+      plain-reads.Learnt,
       type-end-below t,
       type-end.Post,
     )
@@ -352,13 +429,22 @@ pub +alternatives-end+fields-end+group-end+type-end-spec : {M : Type 1} → stat
     (alternatives-end-mul-place t)
     (alternatives-end-add-place t)
     (alternatives-end-loop-holds t)
+    (alternatives-end-sub-if1 t)
     (alternatives-end-returns t)
-    (alternatives-end-add-type-end t)
-    (alternatives-end-type-end-requires t)
-    (alternatives-end-returns-2 t)
+    (alternatives-end-add-plain t)
+    (alternatives-end-mul-plain t)
+    (alternatives-end-shared-slice-read-plain t)
+    (alternatives-end-plain-requires t)
+    (alternatives-end-add-place-2 t)
     (alternatives-end-sub-left-2 t)
     (alternatives-end-loop-less t)
     (alternatives-end-loop-again t)
+    (alternatives-end-add-type-end t)
+    (alternatives-end-type-end-requires t)
+    (alternatives-end-returns-2 t)
+    (alternatives-end-sub-left-3 t)
+    (alternatives-end-loop-less-2 t)
+    (alternatives-end-loop-again-2 t)
     (alternatives-end-returns-3 t))
     (λ t. fields-end-lts.spec
     (type-end-below t, type-end.Post)
@@ -374,6 +460,8 @@ pub +alternatives-end+fields-end+group-end+type-end-spec : {M : Type 1} → stat
     (fields-end-loop-again t)
     (fields-end-returns-2 t))
     (λ t. group-end-lts.spec (
+      plain-types-reads.Asked,
+      plain-types-reads.Learnt,
       fields-end-below t,
       fields-end.Post,
       alternatives-end-below t,
@@ -387,15 +475,21 @@ pub +alternatives-end+fields-end+group-end+type-end-spec : {M : Type 1} → stat
     (group-end-add-count t)
     (group-end-mul-count t)
     (group-end-shared-slice-read-count t)
+    (group-end-add-plain-types t)
+    (group-end-plain-types-requires t)
+    (group-end-add-result t)
+    (group-end-cast-result t)
+    (group-end-add-result-2 t)
+    (group-end-returns-2 t)
     (group-end-add-fields-end t)
     (group-end-sub-fields-end t)
     (group-end-fields-end-requires t)
-    (group-end-returns-2 t)
+    (group-end-returns-3 t)
     (group-end-add-alternatives-end t)
     (group-end-sub-alternatives-end t)
     (group-end-alternatives-end-requires t)
-    (group-end-returns-3 t)
-    (group-end-returns-4 t))
+    (group-end-returns-4 t)
+    (group-end-returns-5 t))
     λ t. type-end-lts.spec
     (group-end-below t, group-end.Post)
     (type-end-at t)
