@@ -1,13 +1,13 @@
 -- What the walks over sheets answer: places, as the code has them, for the words that are left.
-use Prim.Native.Nat.{ℕ, _+_, _*_, _≤_, _<_}
+use Prim.Native.Nat.{ℕ, _+_, _-_, _*_, _^_, _≤_, _<_}
 use mathlib.Core.List.{List}
 use mathlib.Core.Option.{Option, some, none}
 use mathlib.Core.Path.{_≡_}
 use lib.ListN.{length, drop, getD}
-use Rattle.format.specs.Tree.{Ty, Alts}
+use Rattle.format.specs.Tree.{Ty, Alts, Vals}
 use Rattle.format.specs.Sheet.{altCount}
 use Rattle.format.specs.TypeSheet.{maxGroups, Part, got, no, nesting, altNestings}
-use Rattle.format.specs.ValueSheet.{Parts, valueAt}
+use Rattle.format.specs.ValueSheet.{Parts, map, values, valueAt}
 use Rattle.format.proofs.TypePlaces.{TypeIn, AltsIn}
 use Rattle.format.proofs.Choose.{choose}
 
@@ -30,6 +30,13 @@ pub record PlainEnds (w : List ℕ) (at r : ℕ) : Type 0 where
 -- r and q are the ends of the Str or Bytes at `at` and of its bytes, which is no group
 pub record RunEnds (w b : List ℕ) (at from r q : ℕ) : Type 0 where
   pub ends : (g : ℕ) → ValueEnds w b (at + 1) from (valueAt g (drop at w) (drop from b)) r q
+
+-- unless r is 0, one value is left and it is a group of r - 1 values, which are all that is left behind its two words
+pub record LastGroup (w : List ℕ) (at left g r : ℕ) : Type 0 where
+  pub small : r ≤ 2 ^ 32
+  pub inside : (r ≡ 0 → ⊥) → at + 2 ≤ length w
+  pub last : (r ≡ 0 → ⊥) → (left ≡ 1) × (0 < g)
+  pub opens : (r ≡ 0 → ⊥) → (b : List ℕ) → (make : Vals → Vals) × (values (valueAt g) left (drop at w) b ≡ map make (values (valueAt (g - 1)) (r - 1) (drop (at + 2) w) b))
 
 -- a plain kind: Int, Str or Bytes
 abbrev pub IsPlain : ℕ → Type 0
