@@ -449,7 +449,7 @@ module _ (w : List ℕ) (at left g : ℕ) where
           opens = λ z b. (
             (λ vs. Vals.AddVal (Val.Record vs) Vals.NoVal),
             opened 5 k b ∙ ap single (opened-record (g - 1) n (drop (at + 2) w) b) ∙ single-map Val.Record (values (valueAt (g - 1)) n (drop (at + 2) w) b)
-              ∙ ap (λ (j : ℕ). map (λ vs. Vals.AddVal (Val.Record vs) Vals.NoVal) (values (valueAt (g - 1)) j (drop (at + 2) w) b)) m,
+                ∙ ap (λ (j : ℕ). map (λ vs. Vals.AddVal (Val.Record vs) Vals.NoVal) (values (valueAt (g - 1)) j (drop (at + 2) w) b)) m,
           );
         }
 
@@ -463,6 +463,6 @@ module _ (w : List ℕ) (at left g : ℕ) where
           opens = λ z b. (
             (λ vs. Vals.AddVal (Val.Union n (first vs)) Vals.NoVal),
             opened 6 k b ∙ ap single (opened-union (g - 1) n (drop (at + 2) w) b) ∙ ap (λ (u : Bool). single (only u (map (Val.Union n) (valueAt (g - 1) (drop (at + 2) w) b)))) (lt-ltb n (2 ^ 32) small)
-              ∙ first-single (Val.Union n) (valueAt (g - 1) (drop (at + 2) w) b) ∙ ap (map (λ vs. Vals.AddVal (Val.Union n (first vs)) Vals.NoVal)) (sym (single-is (valueAt (g - 1)) (drop (at + 2) w) b)),
+                ∙ first-single (Val.Union n) (valueAt (g - 1) (drop (at + 2) w) b) ∙ ap (map (λ vs. Vals.AddVal (Val.Union n (first vs)) Vals.NoVal)) (sym (single-is (valueAt (g - 1)) (drop (at + 2) w) b)),
           );
         }

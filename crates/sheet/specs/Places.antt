@@ -4,10 +4,10 @@ use mathlib.Core.List.{List}
 use mathlib.Core.Option.{Option, some, none}
 use mathlib.Core.Path.{_≡_}
 use lib.ListN.{length, drop, getD}
-use Rattle.format.specs.Tree.{Ty, Alts, Vals}
+use Rattle.format.specs.Tree.{Ty, Tys, Alts, Vals}
 use Rattle.format.specs.Sheet.{altCount}
-use Rattle.format.specs.TypeSheet.{maxGroups, Part, got, no, nesting, altNestings}
-use Rattle.format.specs.ValueSheet.{Parts, map, values, valueAt}
+use Rattle.format.specs.TypeSheet.{maxGroups, Part, got, no, map, types, typeAt, nesting, altNestings}
+use Rattle.format.specs.ValueSheet.{Parts, map as mapParts, values, valueAt}
 use Rattle.format.proofs.TypePlaces.{TypeIn, AltsIn}
 use Rattle.format.proofs.Choose.{choose}
 
@@ -15,6 +15,13 @@ use Rattle.format.proofs.Choose.{choose}
 abbrev pub Ends : {A : Type 0} → List ℕ → ℕ → Part A → ℕ → Type 0
 Ends w low (got a s) r = (s ≡ drop r w) × (low ≤ r) × (r ≤ length w)
 Ends w low no r = r ≡ 0
+
+-- unless r is 0, one type is left and it is a record of r - 1 fields, which are all that is left behind its two words
+pub record LastRecord (w : List ℕ) (at left g r : ℕ) : Type 0 where
+  pub small : r ≤ 4096
+  pub inside : (r ≡ 0 → ⊥) → at + 2 ≤ length w
+  pub last : (r ≡ 0 → ⊥) → (left ≡ 1) × (0 < g)
+  pub opens : (r ≡ 0 → ⊥) → (make : Tys → Tys) × (types (typeAt g) left (drop at w) ≡ map make (types (typeAt (g - 1)) (r - 1) (drop (at + 2) w)))
 
 -- words end before the place r and their bytes before the place q, which are at least low and from; r is 0 where nothing was read
 abbrev pub ValueEnds : {A : Type 0} → List ℕ → List ℕ → ℕ → ℕ → Parts A → ℕ → ℕ → Type 0
@@ -36,7 +43,7 @@ pub record LastGroup (w : List ℕ) (at left g r : ℕ) : Type 0 where
   pub small : r ≤ 2 ^ 32
   pub inside : (r ≡ 0 → ⊥) → at + 2 ≤ length w
   pub last : (r ≡ 0 → ⊥) → (left ≡ 1) × (0 < g)
-  pub opens : (r ≡ 0 → ⊥) → (b : List ℕ) → (make : Vals → Vals) × (values (valueAt g) left (drop at w) b ≡ map make (values (valueAt (g - 1)) (r - 1) (drop (at + 2) w) b))
+  pub opens : (r ≡ 0 → ⊥) → (b : List ℕ) → (make : Vals → Vals) × (values (valueAt g) left (drop at w) b ≡ mapParts make (values (valueAt (g - 1)) (r - 1) (drop (at + 2) w) b))
 
 -- a plain kind: Int, Str or Bytes
 abbrev pub IsPlain : ℕ → Type 0

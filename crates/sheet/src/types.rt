@@ -6,7 +6,7 @@ ghost use mathlib.Core.Path.{_≡_};
 ghost use Prim.Native.Nat.{_+_, _≤_, _<_};
 ghost use lib.ListN.{length, drop, getD};
 ghost use Rattle.format.specs.TypeSheet.{typeAt, types, alts, typeOf, isSome};
-ghost use Rattle.sheet.specs.Places.{Ends, Skips};
+ghost use Rattle.sheet.specs.Places.{Ends, LastRecord, Skips};
 
 // A tag that no discriminant word has.
 const NO_TAG: u64 = 0x1_0000_0000;
@@ -56,19 +56,54 @@ fn group_end(ty: &[u32], at: usize, groups: usize) -> usize
     0
 }
 
-// The place behind `count` types from `at` on; 0 if they do not stand there.
+// Where one type is left and a record stands at its place, how many fields that has, and one; else 0. So the walk goes on in the record: it ends where the
+// record does.
+fn last_record(ty: &[u32], at: usize, left: u32, groups: usize) -> u32
+    ensures { λ r. ⌜ LastRecord (now (ty .entry)) at left groups r ⌝ }
+{
+    if left != 1 {
+        return 0;
+    }
+    if groups == 0 {
+        return 0;
+    }
+    if at >= ty.len() {
+        return 0;
+    }
+    if ty.len() - at < 2 {
+        return 0;
+    }
+    if ty[at] != 5 {
+        return 0;
+    }
+    let more = ty[at + 1];
+    if more >= 4096 {
+        return 0;
+    }
+    more + 1
+}
+
+// The place behind `count` types from `at` on; 0 if they do not stand there. Only a group that is not the last type is a call.
 fn fields_end(ty: &[u32], at: usize, count: u32, groups: usize) -> usize
     requires { ⌜ at ≤ length (now ty) ⌝ }
     ensures { λ r. ⌜ Ends (now (ty .entry)) at (types (typeAt groups) count (drop at (now (ty .entry)))) r ⌝ }
 {
     let mut left = count;
     let mut place = at;
+    let mut deep = groups;
     while left > 0 {
-        place = type_end(ty, place, groups);
-        if place == 0 {
-            return 0;
+        let more = last_record(ty, place, left, deep);
+        if more != 0 {
+            place += 2;
+            left = more - 1;
+            deep -= 1;
+        } else {
+            place = type_end(ty, place, deep);
+            if place == 0 {
+                return 0;
+            }
+            left -= 1;
         }
-        left -= 1;
     }
     place
 }

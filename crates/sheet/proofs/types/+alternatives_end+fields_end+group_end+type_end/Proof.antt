@@ -1,8 +1,8 @@
 use borrow.Author.Needs.{needs}
 use native.Mathlib.Omega.{arith}
-use Rattle.sheet.proofs.TypeWalk.{none-left, zero-kind, scalar, short, unknown, reference, too-deep, record-end, union-end, Fields, fields-start, fields-done, fields-fail, fields-go, Others, rows-start, alts-done, alts-fail, alts-go, alts-short, alts-plain, plain-record}
-use Prim.Native.Nat.{ℕ, _+_, _*_, _<_}
 use lib.ListN.{length}
+use Rattle.sheet.proofs.TypeWalk.{none-left, zero-kind, scalar, short, unknown, reference, too-deep, record-end, union-end, Fields, fields-start, fields-done, fields-fail, fields-go, fields-into, Others, rows-start, alts-done, alts-fail, alts-go, alts-short, alts-plain, plain-record}
+use Prim.Native.Nat.{ℕ, _+_, _*_, _<_}
 use borrow.Fn.Kinds.{In}
 use borrow.Fn.PlainCycle.{Measures, is, falls, and}
 use Rattle.sheet.proofs.types.alternatives_end.Reads as alternatives-end
@@ -20,6 +20,7 @@ use Rattle.sheet.proofs.types.+alternatives_end+fields_end+group_end+ty
 use Rattle.sheet.proofs.rows.plain.Reads as plain-reads
 use Rattle.sheet.proofs.rows.plain_rows.Reads as plain-rows-reads
 use Rattle.sheet.proofs.rows.plain_types.Reads as plain-types-reads
+use Rattle.sheet.proofs.types.last_record.Reads as last-record-reads
 use Rattle.sheet.proofs.types.+alternatives_end+fields_end+group_end+type_end.{statement}
 use Rattle.sheet.proofs.types.+alternatives_end+fields_end+group_end+type_end.Tie.{close}
 
@@ -79,47 +80,47 @@ alternatives-end-Inv-loop ty at count groups rows left₀ place₀ left place = 
 abbrev alternatives-end-μ-loop : alternatives-end-lts.MeasureT-loop
 alternatives-end-μ-loop ty at count groups rows left₀ place₀ left place = left
 
--- src/types.rt:81:9
+-- src/types.rt:116:9
 alternatives-end-plain-rows-requires : (t : ℕ) → alternatives-end-lts.Need-plain-rows-requires (plain-rows-reads.Asked, plain-rows-reads.Learnt, plain-reads.Asked, plain-reads.Learnt, type-end-below t, type-end.Post) (alternatives-end-at t) alternatives-end.Post alternatives-end-Inv-loop alternatives-end-μ-loop
 alternatives-end-plain-rows-requires t c κs = omega arith
 
--- src/types.rt:82:20
+-- src/types.rt:117:20
 alternatives-end-sub-left : (t : ℕ) → alternatives-end-lts.Need-sub-left (plain-rows-reads.Asked, plain-rows-reads.Learnt, plain-reads.Asked, plain-reads.Learnt, type-end-below t, type-end.Post) (alternatives-end-at t) alternatives-end.Post alternatives-end-Inv-loop alternatives-end-μ-loop
 alternatives-end-sub-left t c = omega (arith, c .plain-rows .ensures .few)
 
--- src/types.rt:83:31
+-- src/types.rt:118:31
 alternatives-end-cast-place : (t : ℕ) → alternatives-end-lts.Need-cast-place (plain-rows-reads.Asked, plain-rows-reads.Learnt, plain-reads.Asked, plain-reads.Learnt, type-end-below t, type-end.Post) (alternatives-end-at t) alternatives-end.Post alternatives-end-Inv-loop alternatives-end-μ-loop
 alternatives-end-cast-place t c = search needs
 
--- src/types.rt:83:26
+-- src/types.rt:118:26
 alternatives-end-mul-place : (t : ℕ) → alternatives-end-lts.Need-mul-place (plain-rows-reads.Asked, plain-rows-reads.Learnt, plain-reads.Asked, plain-reads.Learnt, type-end-below t, type-end.Post) (alternatives-end-at t) alternatives-end.Post alternatives-end-Inv-loop alternatives-end-μ-loop
 alternatives-end-mul-place t c = omega (arith, c .plain-rows .ensures .inside)
 
--- src/types.rt:83:21
+-- src/types.rt:118:21
 alternatives-end-add-place : (t : ℕ) → alternatives-end-lts.Need-add-place (plain-rows-reads.Asked, plain-rows-reads.Learnt, plain-reads.Asked, plain-reads.Learnt, type-end-below t, type-end.Post) (alternatives-end-at t) alternatives-end.Post alternatives-end-Inv-loop alternatives-end-μ-loop
 alternatives-end-add-place t c = omega (arith, c .plain-rows .ensures .inside)
 
--- src/types.rt:84:5
+-- src/types.rt:119:5
 alternatives-end-loop-holds : (t : ℕ) → alternatives-end-lts.Need-loop-holds (plain-rows-reads.Asked, plain-rows-reads.Learnt, plain-reads.Asked, plain-reads.Learnt, type-end-below t, type-end.Post) (alternatives-end-at t) alternatives-end.Post alternatives-end-Inv-loop alternatives-end-μ-loop
 alternatives-end-loop-holds t c = search rows-start
 
--- src/types.rt:85:12
+-- src/types.rt:120:12
 alternatives-end-sub-if1 : (t : ℕ) → alternatives-end-lts.Need-sub-if1 (plain-rows-reads.Asked, plain-rows-reads.Learnt, plain-reads.Asked, plain-reads.Learnt, type-end-below t, type-end.Post) (alternatives-end-at t) alternatives-end.Post alternatives-end-Inv-loop alternatives-end-μ-loop
 alternatives-end-sub-if1 t c = search needs
 
--- src/types.rt:86:13
+-- src/types.rt:121:13
 alternatives-end-returns : (t : ℕ) → alternatives-end-lts.Need-returns (plain-rows-reads.Asked, plain-rows-reads.Learnt, plain-reads.Asked, plain-reads.Learnt, type-end-below t, type-end.Post) (alternatives-end-at t) alternatives-end.Post alternatives-end-Inv-loop alternatives-end-μ-loop
 alternatives-end-returns t c = search alts-short
 
--- src/types.rt:88:21
+-- src/types.rt:123:21
 alternatives-end-add-plain : (t : ℕ) → alternatives-end-lts.Need-add-plain (plain-rows-reads.Asked, plain-rows-reads.Learnt, plain-reads.Asked, plain-reads.Learnt, type-end-below t, type-end.Post) (alternatives-end-at t) alternatives-end.Post alternatives-end-Inv-loop alternatives-end-μ-loop
 alternatives-end-add-plain t c = search needs
 
--- src/types.rt:88:18
+-- src/types.rt:123:18
 alternatives-end-mul-plain : (t : ℕ) → alternatives-end-lts.Need-mul-plain (plain-rows-reads.Asked, plain-rows-reads.Learnt, plain-reads.Asked, plain-reads.Learnt, type-end-below t, type-end.Post) (alternatives-end-at t) alternatives-end.Post alternatives-end-Inv-loop alternatives-end-μ-loop
 alternatives-end-mul-plain t c = search needs
 
--- src/types.rt:88:18
+-- src/types.rt:123:18
 alternatives-end-shared-slice-read-plain :
     (t : ℕ) → alternatives-end-lts.Need-shared-slice-read-plain (
       plain-rows-reads.Asked,
@@ -135,128 +136,110 @@ alternatives-end-shared-slice-read-plain :
     alternatives-end-μ-loop
 alternatives-end-shared-slice-read-plain t c = search needs
 
--- src/types.rt:88:12
+-- src/types.rt:123:12
 alternatives-end-plain-requires : (t : ℕ) → alternatives-end-lts.Need-plain-requires (plain-rows-reads.Asked, plain-rows-reads.Learnt, plain-reads.Asked, plain-reads.Learnt, type-end-below t, type-end.Post) (alternatives-end-at t) alternatives-end.Post alternatives-end-Inv-loop alternatives-end-μ-loop
 alternatives-end-plain-requires t c κs = search needs
 
--- src/types.rt:89:13
+-- src/types.rt:124:13
 alternatives-end-add-place-2 : (t : ℕ) → alternatives-end-lts.Need-add-place-2 (plain-rows-reads.Asked, plain-rows-reads.Learnt, plain-reads.Asked, plain-reads.Learnt, type-end-below t, type-end.Post) (alternatives-end-at t) alternatives-end.Post alternatives-end-Inv-loop alternatives-end-μ-loop
 alternatives-end-add-place-2 t c = omega arith
 
--- src/types.rt:90:13
+-- src/types.rt:125:13
 alternatives-end-sub-left-2 : (t : ℕ) → alternatives-end-lts.Need-sub-left-2 (plain-rows-reads.Asked, plain-rows-reads.Learnt, plain-reads.Asked, plain-reads.Learnt, type-end-below t, type-end.Post) (alternatives-end-at t) alternatives-end.Post alternatives-end-Inv-loop alternatives-end-μ-loop
 alternatives-end-sub-left-2 t c = search needs
 
--- src/types.rt:84:5
+-- src/types.rt:119:5
 alternatives-end-loop-less : (t : ℕ) → alternatives-end-lts.Need-loop-less (plain-rows-reads.Asked, plain-rows-reads.Learnt, plain-reads.Asked, plain-reads.Learnt, type-end-below t, type-end.Post) (alternatives-end-at t) alternatives-end.Post alternatives-end-Inv-loop alternatives-end-μ-loop
 alternatives-end-loop-less t c = search needs
 
--- src/types.rt:84:5
+-- src/types.rt:119:5
 alternatives-end-loop-again : (t : ℕ) → alternatives-end-lts.Need-loop-again (plain-rows-reads.Asked, plain-rows-reads.Learnt, plain-reads.Asked, plain-reads.Learnt, type-end-below t, type-end.Post) (alternatives-end-at t) alternatives-end.Post alternatives-end-Inv-loop alternatives-end-μ-loop
 alternatives-end-loop-again t c = let p = c .before .plain .ensures (c .if2 .taken) in search alts-plain
 
--- src/types.rt:92:34
+-- src/types.rt:127:34
 alternatives-end-add-type-end : (t : ℕ) → alternatives-end-lts.Need-add-type-end (plain-rows-reads.Asked, plain-rows-reads.Learnt, plain-reads.Asked, plain-reads.Learnt, type-end-below t, type-end.Post) (alternatives-end-at t) alternatives-end.Post alternatives-end-Inv-loop alternatives-end-μ-loop
 alternatives-end-add-type-end t c = search needs
 
--- src/types.rt:92:13
+-- src/types.rt:127:13
 alternatives-end-type-end-requires : (t : ℕ) → alternatives-end-lts.Need-type-end-requires (plain-rows-reads.Asked, plain-rows-reads.Learnt, plain-reads.Asked, plain-reads.Learnt, type-end-below t, type-end.Post) (alternatives-end-at t) alternatives-end.Post alternatives-end-Inv-loop alternatives-end-μ-loop
 alternatives-end-type-end-requires t c κs = (omega arith, tt)
 
--- src/types.rt:94:17
+-- src/types.rt:129:17
 alternatives-end-returns-2 : (t : ℕ) → alternatives-end-lts.Need-returns-2 (plain-rows-reads.Asked, plain-rows-reads.Learnt, plain-reads.Asked, plain-reads.Learnt, type-end-below t, type-end.Post) (alternatives-end-at t) alternatives-end.Post alternatives-end-Inv-loop alternatives-end-μ-loop
 alternatives-end-returns-2 t c = let here : c .before .before .before .before .before .before .before .loop .place < length (c .before .before .before .before .before .before .before .before .before .before .args .ty .now) = omega arith in search alts-fail
 
--- src/types.rt:96:13
+-- src/types.rt:131:13
 alternatives-end-sub-left-3 : (t : ℕ) → alternatives-end-lts.Need-sub-left-3 (plain-rows-reads.Asked, plain-rows-reads.Learnt, plain-reads.Asked, plain-reads.Learnt, type-end-below t, type-end.Post) (alternatives-end-at t) alternatives-end.Post alternatives-end-Inv-loop alternatives-end-μ-loop
 alternatives-end-sub-left-3 t c = search needs
 
--- src/types.rt:84:5
+-- src/types.rt:119:5
 alternatives-end-loop-less-2 : (t : ℕ) → alternatives-end-lts.Need-loop-less-2 (plain-rows-reads.Asked, plain-rows-reads.Learnt, plain-reads.Asked, plain-reads.Learnt, type-end-below t, type-end.Post) (alternatives-end-at t) alternatives-end.Post alternatives-end-Inv-loop alternatives-end-μ-loop
 alternatives-end-loop-less-2 t c = search needs
 
--- src/types.rt:84:5
+-- src/types.rt:119:5
 alternatives-end-loop-again-2 : (t : ℕ) → alternatives-end-lts.Need-loop-again-2 (plain-rows-reads.Asked, plain-rows-reads.Learnt, plain-reads.Asked, plain-reads.Learnt, type-end-below t, type-end.Post) (alternatives-end-at t) alternatives-end.Post alternatives-end-Inv-loop alternatives-end-μ-loop
 alternatives-end-loop-again-2 t c = let here : c .before .before .before .before .before .before .before .loop .place < length (c .before .before .before .before .before .before .before .before .before .before .args .ty .now) = omega arith in search alts-go
 
--- src/types.rt:77:1
+-- src/types.rt:112:1
 alternatives-end-returns-3 : (t : ℕ) → alternatives-end-lts.Need-returns-3 (plain-rows-reads.Asked, plain-rows-reads.Learnt, plain-reads.Asked, plain-reads.Learnt, type-end-below t, type-end.Post) (alternatives-end-at t) alternatives-end.Post alternatives-end-Inv-loop alternatives-end-μ-loop
 alternatives-end-returns-3 t c = search alts-done
 
 abbrev fields-end-Inv-loop : fields-end-lts.InvT-loop
-fields-end-Inv-loop ty at count groups left₀ place₀ left place = Fields ty at count groups left place
+fields-end-Inv-loop ty at count groups left₀ place₀ deep₀ left place deep = Fields ty at count groups left place deep
 
 abbrev fields-end-μ-loop : fields-end-lts.MeasureT-loop
-fields-end-μ-loop ty at count groups left₀ place₀ left place = left
+fields-end-μ-loop ty at count groups left₀ place₀ deep₀ left place deep = 4096 * deep + left
 
--- src/types.rt:66:5
-fields-end-loop-holds :
-    (t : ℕ) →
-    fields-end-lts.Need-loop-holds
-    (type-end-below t, type-end.Post)
-    (fields-end-at t)
-    fields-end.Post
-    fields-end-Inv-loop
-    fields-end-μ-loop
+-- src/types.rt:94:5
+fields-end-loop-holds : (t : ℕ) → fields-end-lts.Need-loop-holds (last-record-reads.Asked, last-record-reads.Learnt, type-end-below t, type-end.Post) (fields-end-at t) fields-end.Post fields-end-Inv-loop fields-end-μ-loop
 fields-end-loop-holds t c = search fields-start
 
--- src/types.rt:67:9
-fields-end-type-end-requires : (t : ℕ) → fields-end-lts.Need-type-end-requires (type-end-below t, type-end.Post) (fields-end-at t) fields-end.Post fields-end-Inv-loop fields-end-μ-loop
-fields-end-type-end-requires t c κs = (omega arith, tt)
+-- src/types.rt:95:13
+fields-end-last-record-requires : (t : ℕ) → fields-end-lts.Need-last-record-requires (last-record-reads.Asked, last-record-reads.Learnt, type-end-below t, type-end.Post) (fields-end-at t) fields-end.Post fields-end-Inv-loop fields-end-μ-loop
+fields-end-last-record-requires t c κs = search needs
 
--- src/types.rt:69:13
-fields-end-returns :
-    (t : ℕ) →
-    fields-end-lts.Need-returns
-    (type-end-below t, type-end.Post)
-    (fields-end-at t)
-    fields-end.Post
-    fields-end-Inv-loop
-    fields-end-μ-loop
+-- src/types.rt:97:13
+fields-end-add-place : (t : ℕ) → fields-end-lts.Need-add-place (last-record-reads.Asked, last-record-reads.Learnt, type-end-below t, type-end.Post) (fields-end-at t) fields-end.Post fields-end-Inv-loop fields-end-μ-loop
+fields-end-add-place t c = omega (arith, c .before .last-record .ensures .inside (c .if1 .taken))
+
+-- src/types.rt:98:20
+fields-end-sub-left : (t : ℕ) → fields-end-lts.Need-sub-left (last-record-reads.Asked, last-record-reads.Learnt, type-end-below t, type-end.Post) (fields-end-at t) fields-end.Post fields-end-Inv-loop fields-end-μ-loop
+fields-end-sub-left t c = omega (arith, c .if1 .taken)
+
+-- src/types.rt:99:13
+fields-end-sub-deep : (t : ℕ) → fields-end-lts.Need-sub-deep (last-record-reads.Asked, last-record-reads.Learnt, type-end-below t, type-end.Post) (fields-end-at t) fields-end.Post fields-end-Inv-loop fields-end-μ-loop
+fields-end-sub-deep t c = omega (arith, c .before .last-record .ensures .last (c .if1 .taken))
+
+-- src/types.rt:94:5
+fields-end-loop-less : (t : ℕ) → fields-end-lts.Need-loop-less (last-record-reads.Asked, last-record-reads.Learnt, type-end-below t, type-end.Post) (fields-end-at t) fields-end.Post fields-end-Inv-loop fields-end-μ-loop
+fields-end-loop-less t c = omega (arith, c .before .last-record .ensures .last (c .if1 .taken), c .before .last-record .ensures .small)
+
+-- src/types.rt:94:5
+fields-end-loop-again : (t : ℕ) → fields-end-lts.Need-loop-again (last-record-reads.Asked, last-record-reads.Learnt, type-end-below t, type-end.Post) (fields-end-at t) fields-end.Post fields-end-Inv-loop fields-end-μ-loop
+fields-end-loop-again t c = search fields-into
+
+-- src/types.rt:101:13
+fields-end-type-end-requires : (t : ℕ) → fields-end-lts.Need-type-end-requires (last-record-reads.Asked, last-record-reads.Learnt, type-end-below t, type-end.Post) (fields-end-at t) fields-end.Post fields-end-Inv-loop fields-end-μ-loop
+fields-end-type-end-requires t c κs = (omega (arith, c .before .before .before .loop .inv .deep), tt)
+
+-- src/types.rt:103:17
+fields-end-returns : (t : ℕ) → fields-end-lts.Need-returns (last-record-reads.Asked, last-record-reads.Learnt, type-end-below t, type-end.Post) (fields-end-at t) fields-end.Post fields-end-Inv-loop fields-end-μ-loop
 fields-end-returns t c = search fields-fail
 
--- src/types.rt:71:9
-fields-end-sub-left :
-    (t : ℕ) →
-    fields-end-lts.Need-sub-left
-    (type-end-below t, type-end.Post)
-    (fields-end-at t)
-    fields-end.Post
-    fields-end-Inv-loop
-    fields-end-μ-loop
-fields-end-sub-left t c = search needs
+-- src/types.rt:105:13
+fields-end-sub-left-2 : (t : ℕ) → fields-end-lts.Need-sub-left-2 (last-record-reads.Asked, last-record-reads.Learnt, type-end-below t, type-end.Post) (fields-end-at t) fields-end.Post fields-end-Inv-loop fields-end-μ-loop
+fields-end-sub-left-2 t c = search needs
 
--- src/types.rt:66:5
-fields-end-loop-less :
-    (t : ℕ) →
-    fields-end-lts.Need-loop-less
-    (type-end-below t, type-end.Post)
-    (fields-end-at t)
-    fields-end.Post
-    fields-end-Inv-loop
-    fields-end-μ-loop
-fields-end-loop-less t c = search needs
+-- src/types.rt:94:5
+fields-end-loop-less-2 : (t : ℕ) → fields-end-lts.Need-loop-less-2 (last-record-reads.Asked, last-record-reads.Learnt, type-end-below t, type-end.Post) (fields-end-at t) fields-end.Post fields-end-Inv-loop fields-end-μ-loop
+fields-end-loop-less-2 t c = omega arith
 
--- src/types.rt:66:5
-fields-end-loop-again :
-    (t : ℕ) →
-    fields-end-lts.Need-loop-again
-    (type-end-below t, type-end.Post)
-    (fields-end-at t)
-    fields-end.Post
-    fields-end-Inv-loop
-    fields-end-μ-loop
-fields-end-loop-again t c = search fields-go
+-- src/types.rt:94:5
+fields-end-loop-again-2 : (t : ℕ) → fields-end-lts.Need-loop-again-2 (last-record-reads.Asked, last-record-reads.Learnt, type-end-below t, type-end.Post) (fields-end-at t) fields-end.Post fields-end-Inv-loop fields-end-μ-loop
+fields-end-loop-again-2 t c = search fields-go
 
--- src/types.rt:60:1
-fields-end-returns-2 :
-    (t : ℕ) →
-    fields-end-lts.Need-returns-2
-    (type-end-below t, type-end.Post)
-    (fields-end-at t)
-    fields-end.Post
-    fields-end-Inv-loop
-    fields-end-μ-loop
+-- src/types.rt:87:1
+fields-end-returns-2 : (t : ℕ) → fields-end-lts.Need-returns-2 (last-record-reads.Asked, last-record-reads.Learnt, type-end-below t, type-end.Post) (fields-end-at t) fields-end.Post fields-end-Inv-loop fields-end-μ-loop
 fields-end-returns-2 t c = search fields-done
 
 -- src/types.rt:43:9
@@ -446,18 +429,28 @@ pub +alternatives-end+fields-end+group-end+type-end-spec : {M : Type 1} → stat
     (alternatives-end-loop-less-2 t)
     (alternatives-end-loop-again-2 t)
     (alternatives-end-returns-3 t))
-    (λ t. fields-end-lts.spec
-    (type-end-below t, type-end.Post)
+    (λ t. fields-end-lts.spec (
+      last-record-reads.Asked,
+      last-record-reads.Learnt,
+      type-end-below t,
+      type-end.Post,
+    )
     (fields-end-at t)
     fields-end.Post
     fields-end-Inv-loop
     fields-end-μ-loop
     (fields-end-loop-holds t)
-    (fields-end-type-end-requires t)
-    (fields-end-returns t)
+    (fields-end-last-record-requires t)
+    (fields-end-add-place t)
     (fields-end-sub-left t)
+    (fields-end-sub-deep t)
     (fields-end-loop-less t)
     (fields-end-loop-again t)
+    (fields-end-type-end-requires t)
+    (fields-end-returns t)
+    (fields-end-sub-left-2 t)
+    (fields-end-loop-less-2 t)
+    (fields-end-loop-again-2 t)
     (fields-end-returns-2 t))
     (λ t. group-end-lts.spec (
       plain-types-reads.Asked,
