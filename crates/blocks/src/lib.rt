@@ -9,6 +9,7 @@ pub use comparing::compare;
 pub use comparing::differ_at;
 pub use copying::copy_to;
 pub use copying::move_within;
-pub use low::ascii;
+pub use low::low_blocks;
+pub use low::past_ascii;
 pub use zeros::count_zeros;
 pub use zeros::zero_from;

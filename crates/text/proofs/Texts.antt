@@ -1,13 +1,14 @@
 -- Text goes by characters: the step from one to the next, and text in pieces.
 use Prim.Native.Nat.{ℕ, zero, suc, _+_, _≤_, _<_}
 use mathlib.Core.List.{List, [], _∷_, _++_}
-use mathlib.Core.Bool.{true, false, _&&_}
+use mathlib.Core.Bool.{Bool, true, false, _&&_}
 use mathlib.Core.Path.{_≡_, refl, ap, _∙_}
 use native.Mathlib.Omega.{arith}
 use lib.ListN.{length, getD, drop, drop-of-length-le, length-drop}
 use lib.Seq.{slice, drop-drop}
 use borrow.Author.Tests.{lt-ltb}
 use Rattle.format.specs.Utf8.{firstChar, widthOf, onward, textFrom, utf8}
+use Rattle.format.proofs.Tests.{Test, holds, fails, ltb-test}
 use Rattle.blocks.specs.Ascii.{Low}
 use Rattle.blocks.proofs.Spans.{drop-split, span-slice}
 use Rattle.text.proofs.Fronts.{width-fits, char-append, char-zero}
@@ -59,6 +60,14 @@ step-stops s at h e = go (drop at s) (omega (arith, length-drop at s)) e
 
 pub ends-well : (s : List ℕ) (at : ℕ) → length s ≤ at → utf8 (drop at s) ≡ true
 ends-well s at h = ap utf8 (drop-of-length-le s h) ∙ empty-text
+
+-- a block that begins at a place or behind it ends behind the place
+pub moves-on : (at from stop n : ℕ) → at < n → at ≤ from → from ≤ stop → (from < n → from < stop) → at < stop
+moves-on at from stop n h a b f = go (ltb-test from n)
+  where
+    go : {t : Bool} → Test (from < n) (n ≤ from) t → at < stop
+    go (holds l) = omega (arith, f l)
+    go (fails l) = omega arith
 
 -- ---- in pieces
 

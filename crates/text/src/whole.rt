@@ -8,8 +8,8 @@ ghost use Rattle.text.specs.Walk.{Walked};
 
 // The end of the block of 32 that begins at a place, or of the bytes.
 fn block_end(n: usize, at: usize) -> usize
-    requires { ⌜ at < n ⌝ }
-    ensures { λ r. ⌜ (at < r) × (r ≤ n) ⌝ }
+    requires { ⌜ at ≤ n ⌝ }
+    ensures { λ r. ⌜ (r ≤ n) × (at ≤ r) × (at < n → at < r) ⌝ }
 {
     if n - at < 32 { n } else { at + 32 }
 }
@@ -34,18 +34,15 @@ fn walk(s: &[u8], from: usize, stop: usize) -> usize
 pub fn valid(s: &[u8]) -> bool
     ensures { λ r. ⌜ r ≡ utf8 (now (s .entry)) ⌝ }
 {
-    let mut at: usize = 0;
+    let mut at: usize = blocks::past_ascii(s, 0);
     while at < s.len() {
-        if blocks::ascii(s, at, 32) {
-            at += 32;
-        } else {
-            let stop = block_end(s.len(), at);
-            let next = walk(s, at, stop);
-            if next < stop {
-                return false;
-            }
-            at = next;
+        let from = blocks::low_blocks(s, at, 32);
+        let stop = block_end(s.len(), from);
+        let next = walk(s, from, stop);
+        if next < stop {
+            return false;
         }
+        at = next;
     }
     true
 }

@@ -1,0 +1,38 @@
+-- `low_blocks` meets its contract.
+use borrow.Author.Needs.{needs}
+use Prim.Native.Nat.{_+_, _-_, _≤_, _<_}
+use native.Mathlib.Omega.{arith}
+use lib.ListN.{length, getD}
+use Rattle.blocks.specs.Ascii.{Low}
+use Rattle.blocks.proofs.Spans.{span-join}
+use Rattle.blocks.proofs.low.low_blocks.Statement.{statement}
+use Rattle.blocks.proofs.low.low_blocks.Tie as tie
+
+abbrev Inv-loop : tie.InvT-loop
+Inv-loop s from k i₀ i = (from ≤ i) × (i ≤ length s) × Low s from i
+
+abbrev μ-loop : tie.MeasureT-loop
+μ-loop s from k i₀ i = length s - i
+
+loop-holds : tie.Need-loop-holds Inv-loop μ-loop
+loop-holds c = (omega arith, omega arith, λ k a b. absurd (omega arith))
+
+ascii-requires : tie.Need-ascii-requires Inv-loop μ-loop
+ascii-requires c κs = search needs
+
+add-i : tie.Need-add-i Inv-loop μ-loop
+add-i c = let e = c .before .ascii .ensures (c .if1 .taken) in omega arith
+
+loop-less : tie.Need-loop-less Inv-loop μ-loop
+loop-less c = let e = c .before .ascii .ensures (c .if1 .taken) in omega arith
+
+loop-again : tie.Need-loop-again Inv-loop μ-loop
+loop-again c = let e = c .before .ascii .ensures (c .if1 .taken) in (omega arith, omega arith, span-join (λ k. getD (c .before .before .before .before .args .s .now) k 0 < 0x80) (c .before .before .before .before .args .from) (c .before .before .loop .i) (c .before .before .loop .i + c .before .before .before .before .args .k) (c .before .before .loop .inv .2) (e .1))
+
+returns : tie.Need-returns Inv-loop μ-loop
+returns c = c .before .before .loop .inv
+
+pub low-blocks-spec : {M : Type 1} → statement M
+low-blocks-spec =
+    tie.close
+    (tie.spec Inv-loop μ-loop loop-holds ascii-requires add-i loop-less loop-again returns)
