@@ -15,7 +15,7 @@ use Rattle.format.proofs.KindLaws.{built}
 use Rattle.format.proofs.FitLaws.{of-value, value-kinds, clash, no-null, fields-fit, payload-fits, both-fit}
 use Rattle.format.proofs.PlainLaws.{plainPool, plainBytes, plain}
 use Rattle.format.proofs.EncodePlaces.{record-value, union-value}
-use Rattle.blocks.proofs.Put.{put-none, put-put, set-put}
+use Rattle.blocks.proofs.Put.{put-none, put-put, set-put, length-put}
 use Rattle.write.specs.declared.Put.{Put}
 use Rattle.write.specs.Write.{standing, Stored, Onward, Done, One, Row, Passed}
 
@@ -40,6 +40,10 @@ stored-then l m l′ at a b xs ys s t =
 -- one byte
 pub byte-stored : (l : List ℕ) (at b : ℕ) → at < length l → Stored l at (b ∷ []) (at + 1) (set l at b)
 byte-stored l at b h = record { inside = omega arith; kept = length-set l at b; right = λ f. (refl, set-put l at b h) }
+
+-- bytes that fit in what is left
+pub put-stored : (l : List ℕ) (at : ℕ) (bs : List ℕ) {r : ℕ} {l′ : List ℕ} → at ≤ length l → length bs ≤ length l - at → r ≡ at + length bs → l′ ≡ put l at bs → Stored l at bs r l′
+put-stored l at bs h g e f = record { inside = omega arith; kept = ap length f ∙ length-put l at bs (omega arith); right = λ k. (e, f) }
 
 -- nothing is written where there is no room
 pub no-room : (l : List ℕ) (at : ℕ) (bs : List ℕ) → at ≤ length l → length l < at + length bs → Stored l at bs at l

@@ -2,6 +2,7 @@
 ghost use mathlib.Core.Path.{_≡_};
 ghost use mathlib.Core.List.{[], _∷_};
 ghost use Prim.Native.Nat.{_+_, _≤_};
+ghost use lib.Dec.{leb};
 ghost use lib.ListN.{length};
 ghost use lib.Seq.{slice};
 ghost use Rattle.format.specs.Scalar.{intBytes, uintBytes, refBytes, escaped};
@@ -73,15 +74,26 @@ fn put_ref(out: &mut [u8], at: usize, raw: u64) -> usize
     scalar::refs::write_ref(out, at, raw)
 }
 
+// Has the run of the pool's bytes from p up to e no more than n bytes? Its zeros are counted only where twice its payload would not fit.
+fn run_fits(pool: &[u8], p: usize, e: usize, n: usize) -> bool
+    requires { ⌜ (p ≤ e) × (e ≤ length (now pool)) ⌝ }
+    ensures { λ r. ⌜ r ≡ leb (length (escaped (slice p e (now (pool .entry))))) n ⌝ }
+{
+    if e - p < n / 2 {
+        return true;
+    }
+    scalar::runs::run_len(pool, p, e) <= n
+}
+
 // A run of the pool's bytes from p up to e, where there is room.
 fn put_run(out: &mut [u8], at: usize, pool: &[u8], p: usize, e: usize) -> usize
     requires { ⌜ (at ≤ length (now out)) × (p ≤ e) × (e ≤ length (now pool)) ⌝ }
     ensures { λ r. ⌜ Stored (now (out .entry)) at (escaped (slice p e (now (pool .entry)))) r (now (out .exit)) ⌝ }
 {
-    if out.len() - at < scalar::runs::run_len(pool, p, e) {
-        return at;
+    if run_fits(pool, p, e, out.len() - at) {
+        return scalar::runs::write_run(out, at, pool, p, e);
     }
-    scalar::runs::write_run(out, at, pool, p, e)
+    at
 }
 
 // How many bytes of the pool a value takes that is no group: a run's length.
