@@ -1,8 +1,11 @@
 -- What the writing walk leaves in the buffer: the bytes of whatever value stands at its places and fits some type, where there is room for them.
 use mathlib.Core.Path.{_≡_}
-use mathlib.Core.List.{List}
+use mathlib.Core.List.{List, [], _∷_, _++_}
 use Prim.Native.Nat.{ℕ, _+_, _≤_}
+use lib.Dec.{eqb}
 use lib.ListN.{length}
+use Rattle.format.specs.Answer.{if}
+use Rattle.format.specs.Scalar.{uintBytes}
 use Rattle.format.specs.Tree.{Ty, Tys, Val, Vals}
 use Rattle.format.specs.Sheet.{valCount}
 use Rattle.format.specs.Encode.{valBytes, valsBytes, fits, fitsAll, fine}
@@ -15,6 +18,13 @@ pub record Stored (l : List ℕ) (at : ℕ) (bs : List ℕ) (r : ℕ) (l′ : Li
   pub inside : r ≤ length l
   pub kept : length l′ ≡ length l
   pub right : at + length bs ≤ length l → (r ≡ at + length bs) × (l′ ≡ put l at bs)
+
+-- a group of a kind and with the second word x: how many values it has, a union one, and the bytes before them
+abbrev pub groupCount : ℕ → ℕ → ℕ
+groupCount k x = if (eqb k 5) x 1
+
+abbrev pub groupBytes : ℕ → ℕ → List ℕ
+groupBytes k x = if (eqb k 5) (0x22 ∷ []) (0x52 ∷ uintBytes x)
 
 -- a walk that stands there
 abbrev pub standing : (word pool at left : ℕ) → Put
@@ -51,11 +61,16 @@ pub record Row (words pool : List ℕ) (n w p at : ℕ) (l : List ℕ) (r : Put)
   pub row : (ts : Tys) (depth : ℕ) (vs : Vals) (e f : ℕ) → fitsAll ts depth vs ≡ fine → n ≡ valCount vs → ValuesIn words pool w p vs e f → at + length (valsBytes depth vs) ≤ length l
       → Done e f at l (valsBytes depth vs) r l′
 
+-- and whatever n values in a row with bytes behind them
+pub record Tailed (words pool : List ℕ) (n w p at : ℕ) (tail l : List ℕ) (r : Put) (l′ : List ℕ) : Type 0 where
+  pub row : (ts : Tys) (depth : ℕ) (vs : Vals) (e f : ℕ) → fitsAll ts depth vs ≡ fine → n ≡ valCount vs → ValuesIn words pool w p vs e f → at + length (valsBytes depth vs ++ tail) ≤ length l
+      → Done e f at l (valsBytes depth vs ++ tail) r l′
+
 -- what the rest from r on writes, it writes of the whole from s on
 pub record Passed (words pool : List ℕ) (s : Put) (l : List ℕ) (r : Put) (l′ : List ℕ) : Type 0 where
   pub onward : Onward words pool l (s .word) r l′
   pub fewer : r .left ≤ s .left
-  pub so-far : (e : Put) (m : List ℕ) → Row words pool (r .left) (r .word) (r .pool) (r .at) l′ e m → Row words pool (s .left) (s .word) (s .pool) (s .at) l e m
+  pub so-far : (tail : List ℕ) (e : Put) (m : List ℕ) → Tailed words pool (r .left) (r .word) (r .pool) (r .at) tail l′ e m → Tailed words pool (s .left) (s .word) (s .pool) (s .at) tail l e m
 
 pub record WroteValue (words pool : List ℕ) (s : Put) (l : List ℕ) (r : Put) (l′ : List ℕ) : Type 0 where
   pub onward : Onward words pool l (s .word) r l′

@@ -1,13 +1,14 @@
 // The encoder's writing walk. It goes by the value alone: a value's type has no part in its bytes.
 ghost use mathlib.Core.Path.{_≡_};
+ghost use mathlib.Core.Bool.{true};
 ghost use mathlib.Core.List.{[], _∷_};
-ghost use Prim.Native.Nat.{_+_, _≤_};
+ghost use Prim.Native.Nat.{_+_, _≤_, _<_};
 ghost use lib.Dec.{leb};
-ghost use lib.ListN.{length};
+ghost use lib.ListN.{length, getD, replicate};
 ghost use lib.Seq.{slice};
 ghost use Rattle.format.specs.Scalar.{intBytes, uintBytes, refBytes, escaped};
 ghost use Rattle.format.proofs.PlainLaws.{plainPool, plainBytes};
-ghost use Rattle.write.specs.Write.{standing, Stored, Ready, Passed, WroteValue, WroteFields};
+ghost use Rattle.write.specs.Write.{standing, groupCount, groupBytes, Stored, Ready, Passed, WroteValue, WroteFields};
 
 // Where the walk stands in the words, the pool and the buffer, and how many fields are left.
 pub struct Put {
@@ -137,14 +138,22 @@ fn put_scalar(
 }
 
 // The values from a place on that are no groups, up to the first that is not passed so.
-pub fn put_plain(words: &[u64], pool: &[u8], out: &mut [u8], s: Put) -> Put
-    requires { ⌜ Ready (now words) (now pool) (now out) s ⌝ }
-    ensures { λ r. ⌜ Passed (now (words .entry)) (now (pool .entry)) s (now (out .entry)) r (now (out .exit)) ⌝ }
+pub fn put_plain(
+    words: &[u64],
+    pool: &[u8],
+    out: &mut [u8],
+    word: usize,
+    from: usize,
+    start: usize,
+    count: u64,
+) -> Put
+    requires { ⌜ Ready (now words) (now pool) (now out) (standing word from start count) ⌝ }
+    ensures { λ r. ⌜ Passed (now (words .entry)) (now (pool .entry)) (standing word from start count) (now (out .entry)) r (now (out .exit)) ⌝ }
 {
-    let mut w = s.word;
-    let mut p = s.pool;
-    let mut at = s.at;
-    let mut left = s.left;
+    let mut w = word;
+    let mut p = from;
+    let mut at = start;
+    let mut left = count;
     while 0 < left {
         if words.len() - w < 2 {
             return stand(w, p, at, left);
@@ -166,52 +175,125 @@ pub fn put_plain(words: &[u64], pool: &[u8], out: &mut [u8], s: Put) -> Put
     stand(w, p, at, left)
 }
 
-// A value.
-pub fn put_value(words: &[u64], pool: &[u8], out: &mut [u8], s: Put) -> Put
-    requires { ⌜ Ready (now words) (now pool) (now out) s ⌝ }
-    ensures { λ r. ⌜ WroteValue (now (words .entry)) (now (pool .entry)) s (now (out .entry)) r (now (out .exit)) ⌝ }
+// How many values a group has: a union one.
+fn count_of(kind: u64, x: u64) -> u64
+    ensures { λ r. ⌜ r ≡ groupCount kind x ⌝ }
 {
-    let w = s.word;
-    let p = s.pool;
-    if words.len() - w < 2 {
-        return s;
+    if kind == 5 { x } else { 1 }
+}
+
+// A group's mark, and a union's tag.
+fn open_group(out: &mut [u8], at: usize, kind: u64, x: u64) -> usize
+    requires { ⌜ at ≤ length (now out) ⌝ }
+    ensures { λ r. ⌜ Stored (now (out .entry)) at (groupBytes kind x) r (now (out .exit)) ⌝ }
+{
+    if kind == 5 {
+        return put_byte(out, at, format::MARK_RECORD);
     }
-    let kind = words[w];
-    let x = words[w + 1];
+    let tag = put_byte(out, at, format::MARK_UNION);
+    put_disc(out, tag, x)
+}
+
+// So many groups' ends, where there is room.
+fn put_ends(out: &mut [u8], start: usize, count: usize) -> usize
+    requires { ⌜ start ≤ length (now out) ⌝ }
+    ensures { λ r. ⌜ Stored (now (out .entry)) start (replicate count 0) r (now (out .exit)) ⌝ }
+{
+    let mut at = start;
+    let mut left = count;
+    while 0 < left {
+        at = put_byte(out, at, format::MARK_TERM);
+        left -= 1;
+    }
+    at
+}
+
+// Is one value left, and does a group open at its place? Then the walk goes on in it, and its end is written with those of all.
+fn last_group(words: &[u64], w: usize, left: u64) -> bool
+    ensures { λ r. ⌜ (r ≡ true → (left ≡ 1) × (w + 2 ≤ length (now (words .entry))) × (4 < getD (now (words .entry)) w 0)) ⌝ }
+{
+    if left != 1 {
+        return false;
+    }
+    if words.len() <= w {
+        return false;
+    }
+    if words.len() - w < 2 {
+        return false;
+    }
+    4 < words[w]
+}
+
+// A value.
+pub fn put_value(
+    words: &[u64],
+    pool: &[u8],
+    out: &mut [u8],
+    word: usize,
+    from: usize,
+    at: usize,
+) -> Put
+    requires { ⌜ Ready (now words) (now pool) (now out) (standing word from at 0) ⌝ }
+    ensures { λ r. ⌜ WroteValue (now (words .entry)) (now (pool .entry)) (standing word from at 0) (now (out .entry)) r (now (out .exit)) ⌝ }
+{
+    if words.len() - word < 2 {
+        return stand(word, from, at, 0);
+    }
+    let kind = words[word];
+    let x = words[word + 1];
     if kind < 5 {
         let n = run_of(kind, x);
-        if pool.len() - p < n {
-            return s;
+        if pool.len() - from < n {
+            return stand(word, from, at, 0);
         }
-        let end = put_scalar(out, s.at, kind, x, pool, p, p + n);
-        return stand(w + 2, p + n, end, 0);
+        let end = put_scalar(out, at, kind, x, pool, from, from + n);
+        return stand(word + 2, from + n, end, 0);
     }
-    if kind == 5 {
-        let inner = put_byte(out, s.at, format::MARK_RECORD);
-        let r = put_fields(words, pool, out, stand(w + 2, p, inner, x));
-        let end = put_byte(out, r.at, format::MARK_TERM);
-        return stand(r.word, r.pool, end, 0);
-    }
-    let tag = put_byte(out, s.at, format::MARK_UNION);
-    let inner = put_disc(out, tag, x);
-    let r = put_value(words, pool, out, stand(w + 2, p, inner, 0));
+    let inner = open_group(out, at, kind, x);
+    let r = put_fields(words, pool, out, word + 2, from, inner, count_of(kind, x));
     let end = put_byte(out, r.at, format::MARK_TERM);
     stand(r.word, r.pool, end, 0)
 }
 
-// The fields of a record.
-pub fn put_fields(words: &[u64], pool: &[u8], out: &mut [u8], s: Put) -> Put
-    requires { ⌜ Ready (now words) (now pool) (now out) s ⌝ }
-    ensures { λ r. ⌜ WroteFields (now (words .entry)) (now (pool .entry)) s (now (out .entry)) r (now (out .exit)) ⌝ }
+// The fields of a record. Only a group that is not the last one is a call.
+pub fn put_fields(
+    words: &[u64],
+    pool: &[u8],
+    out: &mut [u8],
+    word: usize,
+    from: usize,
+    start: usize,
+    count: u64,
+) -> Put
+    requires { ⌜ Ready (now words) (now pool) (now out) (standing word from start count) ⌝ }
+    ensures { λ r. ⌜ WroteFields (now (words .entry)) (now (pool .entry)) (standing word from start count) (now (out .entry)) r (now (out .exit)) ⌝ }
 {
-    let mut here = s;
+    let mut w = word;
+    let mut p = from;
+    let mut at = start;
+    let mut left = count;
+    let mut ends: usize = 0;
     loop {
-        let r = put_plain(words, pool, out, here);
-        let left = r.left;
+        let r = put_plain(words, pool, out, w, p, at, left);
+        w = r.word;
+        p = r.pool;
+        at = r.at;
+        left = r.left;
         if left == 0 {
-            return r;
+            let end = put_ends(out, at, ends);
+            return stand(w, p, end, 0);
         }
-        let g = put_value(words, pool, out, r);
-        here = stand(g.word, g.pool, g.at, left - 1);
+        if last_group(words, w, left) {
+            at = open_group(out, at, words[w], words[w + 1]);
+            left = count_of(words[w], words[w + 1]);
+            w += 2;
+            ends += 1;
+        } else {
+            let g = put_value(words, pool, out, w, p, at);
+            w = g.word;
+            p = g.pool;
+            at = g.at;
+            left -= 1;
+        }
     }
 }

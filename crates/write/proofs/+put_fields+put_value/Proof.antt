@@ -2,10 +2,10 @@ use mathlib.Core.Path.{_≡_, refl, sym, ap, _∙_}
 use Prim.Native.Nat.{_+_, _-_, _*_, _≤_}
 use native.Mathlib.Omega.{arith}
 use borrow.Author.Needs.{needs}
-use lib.ListN.{length}
+use lib.ListN.{length, getD}
 use Rattle.write.proofs.Steps as laws
 use Prim.Native.Nat.{ℕ, _<_}
-use borrow.Fn.Kinds.{In, Out}
+use borrow.Fn.Kinds.{In}
 use borrow.Fn.PlainCycle.{Measures, is, falls, and}
 use Rattle.write.proofs.put_fields.Reads as put-fields
 use Rattle.write.proofs.put_fields.Kinds as put-fields-kinds
@@ -13,8 +13,11 @@ use Rattle.write.proofs.+put_fields+put_value.Lts-put_fields as put-fie
 use Rattle.write.proofs.put_value.Reads as put-value
 use Rattle.write.proofs.put_value.Kinds as put-value-kinds
 use Rattle.write.proofs.+put_fields+put_value.Lts-put_value as put-value-lts
+use Rattle.write.proofs.count_of.Reads as count-of-reads
+use Rattle.write.proofs.last_group.Reads as last-group-reads
+use Rattle.write.proofs.open_group.Reads as open-group-reads
 use Rattle.write.proofs.put_byte.Reads as put-byte-reads
-use Rattle.write.proofs.put_disc.Reads as put-disc-reads
+use Rattle.write.proofs.put_ends.Reads as put-ends-reads
 use Rattle.write.proofs.put_plain.Reads as put-plain-reads
 use Rattle.write.proofs.put_scalar.Reads as put-scalar-reads
 use Rattle.write.proofs.run_of.Reads as run-of-reads
@@ -23,10 +26,10 @@ use Rattle.write.proofs.+put_fields+put_value.{statement}
 use Rattle.write.proofs.+put_fields+put_value.Tie.{close}
 
 abbrev μ-put-fields : Measures 3 put-fields-kinds.ps ℕ
-μ-put-fields κs a = 2 * (length (a .0 .now) - a .1 .1 .1 .0 .word) + 1
+μ-put-fields κs a = 2 * (length (a .0 .now) - a .1 .1 .1 .0) + 1
 
 abbrev μ-put-value : Measures 3 put-value-kinds.ps ℕ
-μ-put-value κs a = 2 * (length (a .0 .now) - a .1 .1 .1 .0 .word)
+μ-put-value κs a = 2 * (length (a .0 .now) - a .1 .1 .1 .0)
 
 abbrev put-fields-at : ℕ → In 3 put-fields-kinds.ps
 put-fields-at t =
@@ -44,214 +47,330 @@ put-value-below t =
     and 3 put-value-kinds.ps (falls 3 put-value-kinds.ps _<_ μ-put-value t) put-value.Pre
 
 abbrev put-fields-Inv-loop : put-fields-lts.InvT-loop
-put-fields-Inv-loop words pool out₀ here₀ out here = laws.Walking words pool here₀ out₀ here out
+put-fields-Inv-loop words pool out₀ word from start count w₀ p₀ at₀ left₀ ends₀ out w p at left ends =
+    laws.Walking words pool word from start count out₀ w p at left ends out
 
 abbrev put-fields-μ-loop : put-fields-lts.MeasureT-loop
-put-fields-μ-loop words pool out₀ here₀ out here = here .left
+put-fields-μ-loop words pool out₀ word from start count w₀ p₀ at₀ left₀ ends₀ out w p at left ends =
+    18446744073709551616 * (length words - w) + left
 
-abbrev put-fields-claims : ℕ → put-fields-lts.Claims
-put-fields-claims t = (put-plain-reads.Asked, put-plain-reads.Learnt, put-value-below t, put-value.Post, stand-reads.Asked, stand-reads.Learnt)
+-- src/lib.rt:276:5
+put-fields-loop-holds : (t : ℕ) → put-fields-lts.Need-loop-holds (put-plain-reads.Asked, put-plain-reads.Learnt, put-ends-reads.Asked, put-ends-reads.Learnt, stand-reads.Asked, stand-reads.Learnt, last-group-reads.Asked, last-group-reads.Learnt, open-group-reads.Asked, open-group-reads.Learnt, count-of-reads.Asked, count-of-reads.Learnt, put-value-below t, put-value.Post) (put-fields-at t) put-fields.Post put-fields-Inv-loop put-fields-μ-loop
+put-fields-loop-holds t c = laws.walk-start (c .before .before .before .args .words .now) (c .before .before .before .args .pool .now) (c .before .before .before .args .word) (c .before .before .before .args .from) (c .before .before .before .args .start) (c .before .before .before .args .count) (c .before .before .before .args .out .now) (c .before .before .before .pre .1 .word-in) (c .before .before .before .pre .1 .pool-in) (c .before .before .before .pre .1 .at-in)
 
-abbrev put-fields-need : (put-fields-lts.Claims → In 3 put-fields-kinds.ps → Out 3 put-fields-kinds.ps put-fields-kinds.r → put-fields-lts.InvT-loop → put-fields-lts.MeasureT-loop → Type 0) → Type 0
-put-fields-need N = (t : ℕ) → N (put-fields-claims t) (put-fields-at t) put-fields.Post put-fields-Inv-loop put-fields-μ-loop
+-- src/lib.rt:277:13
+put-fields-put-plain-requires : (t : ℕ) → put-fields-lts.Need-put-plain-requires (put-plain-reads.Asked, put-plain-reads.Learnt, put-ends-reads.Asked, put-ends-reads.Learnt, stand-reads.Asked, stand-reads.Learnt, last-group-reads.Asked, last-group-reads.Learnt, open-group-reads.Asked, open-group-reads.Learnt, count-of-reads.Asked, count-of-reads.Learnt, put-value-below t, put-value.Post) (put-fields-at t) put-fields.Post put-fields-Inv-loop put-fields-μ-loop
+put-fields-put-plain-requires t c κs = record { word-in = c .before .loop .inv .word-in; pool-in = c .before .loop .inv .pool-in; at-in = omega (arith, c .before .loop .inv .at-in, c .before .loop .inv .kept) }
 
--- src/lib.rt:196:5
-put-fields-loop-holds : put-fields-need put-fields-lts.Need-loop-holds
-put-fields-loop-holds t c = search needs
+-- src/lib.rt:283:17
+put-fields-put-ends-requires : (t : ℕ) → put-fields-lts.Need-put-ends-requires (put-plain-reads.Asked, put-plain-reads.Learnt, put-ends-reads.Asked, put-ends-reads.Learnt, stand-reads.Asked, stand-reads.Learnt, last-group-reads.Asked, last-group-reads.Learnt, open-group-reads.Asked, open-group-reads.Learnt, count-of-reads.Asked, count-of-reads.Learnt, put-value-below t, put-value.Post) (put-fields-at t) put-fields.Post put-fields-Inv-loop put-fields-μ-loop
+put-fields-put-ends-requires t c κs = omega (arith, (laws.walk-plain (c .before .before .before .before .before .before .before .before .before .before .args .words .now) (c .before .before .before .before .before .before .before .before .before .before .args .pool .now) (c .before .before .before .before .before .before .before .before .before .before .args .word) (c .before .before .before .before .before .before .before .before .before .before .args .from) (c .before .before .before .before .before .before .before .before .before .before .args .start) (c .before .before .before .before .before .before .before .before .before .before .args .count) (c .before .before .before .before .before .before .before .before .before .before .args .out .now) (c .before .before .before .before .before .before .loop .w) (c .before .before .before .before .before .before .loop .p) (c .before .before .before .before .before .before .loop .at) (c .before .before .before .before .before .before .loop .left) (c .before .before .before .before .before .before .loop .ends) (c .before .before .before .before .before .before .loop .out) (c .before .before .before .before .before .before .loop .inv) (c .before .before .before .before .put-plain .result) _ (c .before .before .before .before .put-plain .ensures)) .at-in, (laws.walk-plain (c .before .before .before .before .before .before .before .before .before .before .args .words .now) (c .before .before .before .before .before .before .before .before .before .before .args .pool .now) (c .before .before .before .before .before .before .before .before .before .before .args .word) (c .before .before .before .before .before .before .before .before .before .before .args .from) (c .before .before .before .before .before .before .before .before .before .before .args .start) (c .before .before .before .before .before .before .before .before .before .before .args .count) (c .before .before .before .before .before .before .before .before .before .before .args .out .now) (c .before .before .before .before .before .before .loop .w) (c .before .before .before .before .before .before .loop .p) (c .before .before .before .before .before .before .loop .at) (c .before .before .before .before .before .before .loop .left) (c .before .before .before .before .before .before .loop .ends) (c .before .before .before .before .before .before .loop .out) (c .before .before .before .before .before .before .loop .inv) (c .before .before .before .before .put-plain .result) _ (c .before .before .before .before .put-plain .ensures)) .kept)
 
--- src/lib.rt:197:13
-put-fields-put-plain-requires : put-fields-need put-fields-lts.Need-put-plain-requires
-put-fields-put-plain-requires t c κs = search needs
-
--- src/lib.rt:200:13
-put-fields-same-length : put-fields-need put-fields-lts.Need-same-length
-put-fields-same-length t c = search needs
-
--- src/lib.rt:200:13
-put-fields-returns : put-fields-need put-fields-lts.Need-returns
-put-fields-returns t c = let s = c .before .before .before .before .before .before .before .before .before in let a = s .args in let l = c .before .before .before .before .before .loop in let f = c .before .before .before .put-plain .ensures in let r = c .before .before .before .put-plain .result in record { onward = record { on = omega (arith, l .inv .on, f .onward .on); word-in = f .onward .word-in; pool-in = f .onward .pool-in; at-in = omega (arith, f .onward .at-in, l .inv .kept); kept = f .onward .kept ∙ l .inv .kept }; says = l .inv .so-far _ _ (f .so-far _ _ (laws.row-none (a .words .now) (a .pool .now) (r .left) (r .word) (r .pool) (r .at) _ _ (c .if1 .taken) refl refl refl)) }
-
--- src/lib.rt:202:13
-put-fields-put-value-requires : put-fields-need put-fields-lts.Need-put-value-requires
-put-fields-put-value-requires t c κs = search needs
-
--- src/lib.rt:203:44
-put-fields-sub-stand : put-fields-need put-fields-lts.Need-sub-stand
-put-fields-sub-stand t c = search needs
-
--- src/lib.rt:203:9
-put-fields-stand-requires : put-fields-need put-fields-lts.Need-stand-requires
+-- src/lib.rt:284:13
+put-fields-stand-requires : (t : ℕ) → put-fields-lts.Need-stand-requires (put-plain-reads.Asked, put-plain-reads.Learnt, put-ends-reads.Asked, put-ends-reads.Learnt, stand-reads.Asked, stand-reads.Learnt, last-group-reads.Asked, last-group-reads.Learnt, open-group-reads.Asked, open-group-reads.Learnt, count-of-reads.Asked, count-of-reads.Learnt, put-value-below t, put-value.Post) (put-fields-at t) put-fields.Post put-fields-Inv-loop put-fields-μ-loop
 put-fields-stand-requires t c κs = search needs
 
--- src/lib.rt:196:5
-put-fields-loop-less : put-fields-need put-fields-lts.Need-loop-less
-put-fields-loop-less t c = let s = c .before .before .before .before .before .before .before .before .before .before .before .before .before .before in let a = s .args in let l = c .before .before .before .before .before .before .before .before .before .before .loop in let f = c .before .before .before .before .before .before .before .before .put-plain .ensures in let r = c .before .before .before .before .before .before .before .before .put-plain .result in rw (c .stand .ensures) (omega (arith, f .fewer, c .before .before .before .before .before .if1 .left))
+-- src/lib.rt:284:13
+put-fields-same-length : (t : ℕ) → put-fields-lts.Need-same-length (put-plain-reads.Asked, put-plain-reads.Learnt, put-ends-reads.Asked, put-ends-reads.Learnt, stand-reads.Asked, stand-reads.Learnt, last-group-reads.Asked, last-group-reads.Learnt, open-group-reads.Asked, open-group-reads.Learnt, count-of-reads.Asked, count-of-reads.Learnt, put-value-below t, put-value.Post) (put-fields-at t) put-fields.Post put-fields-Inv-loop put-fields-μ-loop
+put-fields-same-length t c = c .before .before .before .put-ends .ensures .kept ∙ (laws.walk-plain (c .before .before .before .before .before .before .before .before .before .before .before .before .before .before .args .words .now) (c .before .before .before .before .before .before .before .before .before .before .before .before .before .before .args .pool .now) (c .before .before .before .before .before .before .before .before .before .before .before .before .before .before .args .word) (c .before .before .before .before .before .before .before .before .before .before .before .before .before .before .args .from) (c .before .before .before .before .before .before .before .before .before .before .before .before .before .before .args .start) (c .before .before .before .before .before .before .before .before .before .before .before .before .before .before .args .count) (c .before .before .before .before .before .before .before .before .before .before .before .before .before .before .args .out .now) (c .before .before .before .before .before .before .before .before .before .before .loop .w) (c .before .before .before .before .before .before .before .before .before .before .loop .p) (c .before .before .before .before .before .before .before .before .before .before .loop .at) (c .before .before .before .before .before .before .before .before .before .before .loop .left) (c .before .before .before .before .before .before .before .before .before .before .loop .ends) (c .before .before .before .before .before .before .before .before .before .before .loop .out) (c .before .before .before .before .before .before .before .before .before .before .loop .inv) (c .before .before .before .before .before .before .before .before .put-plain .result) _ (c .before .before .before .before .before .before .before .before .put-plain .ensures)) .kept
 
--- src/lib.rt:196:5
-put-fields-loop-again : put-fields-need put-fields-lts.Need-loop-again
-put-fields-loop-again t c = let s = c .before .before .before .before .before .before .before .before .before .before .before .before .before .before in let a = s .args in let l = c .before .before .before .before .before .before .before .before .before .before .loop in let f = c .before .before .before .before .before .before .before .before .put-plain .ensures in let r = c .before .before .before .before .before .before .before .before .put-plain .result in let v = c .before .before .before .put-value .ensures in rw (c .stand .ensures) (record { on = omega (arith, l .inv .on, f .onward .on, v .onward .on); word-in = v .onward .word-in; pool-in = v .onward .pool-in; at-in = omega (arith, v .onward .at-in, f .onward .kept, l .inv .kept); kept = v .onward .kept ∙ f .onward .kept ∙ l .inv .kept; so-far = λ e m h. l .inv .so-far e m (f .so-far e m (laws.row-more (a .words .now) (a .pool .now) (r .left) (r .word) (r .pool) (r .at) _ (laws.pos _ (c .before .before .before .before .before .if1 .left)) _ _ (v .onward .kept) (v .says) e m h)) })
+-- src/lib.rt:284:13
+put-fields-returns : (t : ℕ) → put-fields-lts.Need-returns (put-plain-reads.Asked, put-plain-reads.Learnt, put-ends-reads.Asked, put-ends-reads.Learnt, stand-reads.Asked, stand-reads.Learnt, last-group-reads.Asked, last-group-reads.Learnt, open-group-reads.Asked, open-group-reads.Learnt, count-of-reads.Asked, count-of-reads.Learnt, put-value-below t, put-value.Post) (put-fields-at t) put-fields.Post put-fields-Inv-loop put-fields-μ-loop
+put-fields-returns t c = rw (c .stand .ensures) (laws.walk-end (c .before .before .before .before .before .before .before .before .before .before .before .before .before .before .args .words .now) (c .before .before .before .before .before .before .before .before .before .before .before .before .before .before .args .pool .now) (c .before .before .before .before .before .before .before .before .before .before .before .before .before .before .args .word) (c .before .before .before .before .before .before .before .before .before .before .before .before .before .before .args .from) (c .before .before .before .before .before .before .before .before .before .before .before .before .before .before .args .start) (c .before .before .before .before .before .before .before .before .before .before .before .before .before .before .args .count) (c .before .before .before .before .before .before .before .before .before .before .before .before .before .before .args .out .now) (c .before .before .before .before .before .before .before .before .put-plain .result .word) (c .before .before .before .before .before .before .before .before .put-plain .result .pool) (c .before .before .before .before .before .before .before .before .put-plain .result .at) (c .before .before .before .before .before .before .before .before .put-plain .result .left) (c .before .before .before .before .before .before .before .before .before .before .loop .ends) _ (laws.walk-plain (c .before .before .before .before .before .before .before .before .before .before .before .before .before .before .args .words .now) (c .before .before .before .before .before .before .before .before .before .before .before .before .before .before .args .pool .now) (c .before .before .before .before .before .before .before .before .before .before .before .before .before .before .args .word) (c .before .before .before .before .before .before .before .before .before .before .before .before .before .before .args .from) (c .before .before .before .before .before .before .before .before .before .before .before .before .before .before .args .start) (c .before .before .before .before .before .before .before .before .before .before .before .before .before .before .args .count) (c .before .before .before .before .before .before .before .before .before .before .before .before .before .before .args .out .now) (c .before .before .before .before .before .before .before .before .before .before .loop .w) (c .before .before .before .before .before .before .before .before .before .before .loop .p) (c .before .before .before .before .before .before .before .before .before .before .loop .at) (c .before .before .before .before .before .before .before .before .before .before .loop .left) (c .before .before .before .before .before .before .before .before .before .before .loop .ends) (c .before .before .before .before .before .before .before .before .before .before .loop .out) (c .before .before .before .before .before .before .before .before .before .before .loop .inv) (c .before .before .before .before .before .before .before .before .put-plain .result) _ (c .before .before .before .before .before .before .before .before .put-plain .ensures)) (c .before .before .before .put-ends .result) _ (c .before .before .before .before .before .if1 .taken) (c .before .before .before .put-ends .ensures))
 
-abbrev put-value-claims : ℕ → put-value-lts.Claims
-put-value-claims t = (run-of-reads.Asked, run-of-reads.Learnt, put-scalar-reads.Asked, put-scalar-reads.Learnt, stand-reads.Asked, stand-reads.Learnt, put-byte-reads.Asked, put-byte-reads.Learnt, put-fields-below t, put-fields.Post, put-disc-reads.Asked, put-disc-reads.Learnt, put-value-below t, put-value.Post)
+-- src/lib.rt:286:12
+put-fields-last-group-requires : (t : ℕ) → put-fields-lts.Need-last-group-requires (put-plain-reads.Asked, put-plain-reads.Learnt, put-ends-reads.Asked, put-ends-reads.Learnt, stand-reads.Asked, stand-reads.Learnt, last-group-reads.Asked, last-group-reads.Learnt, open-group-reads.Asked, open-group-reads.Learnt, count-of-reads.Asked, count-of-reads.Learnt, put-value-below t, put-value.Post) (put-fields-at t) put-fields.Post put-fields-Inv-loop put-fields-μ-loop
+put-fields-last-group-requires t c κs = search needs
 
-abbrev put-value-need : (put-value-lts.Claims → In 3 put-value-kinds.ps → Out 3 put-value-kinds.ps put-value-kinds.r → Type 0) → Type 0
-put-value-need N = (t : ℕ) → N (put-value-claims t) (put-value-at t) put-value.Post
+-- src/lib.rt:287:38
+put-fields-mul-open-group : (t : ℕ) → put-fields-lts.Need-mul-open-group (put-plain-reads.Asked, put-plain-reads.Learnt, put-ends-reads.Asked, put-ends-reads.Learnt, stand-reads.Asked, stand-reads.Learnt, last-group-reads.Asked, last-group-reads.Learnt, open-group-reads.Asked, open-group-reads.Learnt, count-of-reads.Asked, count-of-reads.Learnt, put-value-below t, put-value.Post) (put-fields-at t) put-fields.Post put-fields-Inv-loop put-fields-μ-loop
+put-fields-mul-open-group t c = search needs
 
--- src/lib.rt:164:8
-put-value-sub-if1 : put-value-need put-value-lts.Need-sub-if1
-put-value-sub-if1 t c = search needs
+-- src/lib.rt:287:38
+put-fields-shared-slice-read-open-group :
+    (t : ℕ) → put-fields-lts.Need-shared-slice-read-open-group (
+      put-plain-reads.Asked,
+      put-plain-reads.Learnt,
+      put-ends-reads.Asked,
+      put-ends-reads.Learnt,
+      stand-reads.Asked,
+      stand-reads.Learnt,
+      last-group-reads.Asked,
+      last-group-reads.Learnt,
+      open-group-reads.Asked,
+      open-group-reads.Learnt,
+      count-of-reads.Asked,
+      count-of-reads.Learnt,
+      put-value-below t,
+      put-value.Post,
+    ) (put-fields-at t) put-fields.Post put-fields-Inv-loop put-fields-μ-loop
+put-fields-shared-slice-read-open-group t c = omega (arith, c .before .before .before .last-group .ensures (c .before .before .if2 .taken))
 
--- src/lib.rt:165:9
-put-value-returns : put-value-need put-value-lts.Need-returns
-put-value-returns t c = let s = c .before .before .before .before in let a = s .args in let q = s .pre .1 in record { onward = record { on = omega arith; word-in = q .word-in; pool-in = q .pool-in; at-in = q .at-in; kept = refl }; says = laws.short (a .words .now) (a .pool .now) (a .s .word) (a .s .pool) (a .s .at) (a .out .now) _ _ (c .if1 .taken) }
+-- src/lib.rt:287:54
+put-fields-add-open-group : (t : ℕ) → put-fields-lts.Need-add-open-group (put-plain-reads.Asked, put-plain-reads.Learnt, put-ends-reads.Asked, put-ends-reads.Learnt, stand-reads.Asked, stand-reads.Learnt, last-group-reads.Asked, last-group-reads.Learnt, open-group-reads.Asked, open-group-reads.Learnt, count-of-reads.Asked, count-of-reads.Learnt, put-value-below t, put-value.Post) (put-fields-at t) put-fields.Post put-fields-Inv-loop put-fields-μ-loop
+put-fields-add-open-group t c = omega (arith, c .before .before .before .last-group .ensures (c .before .before .if2 .taken))
 
--- src/lib.rt:167:16
-put-value-mul-kind : put-value-need put-value-lts.Need-mul-kind
-put-value-mul-kind t c = search needs
+-- src/lib.rt:287:48
+put-fields-mul-open-group-2 : (t : ℕ) → put-fields-lts.Need-mul-open-group-2 (put-plain-reads.Asked, put-plain-reads.Learnt, put-ends-reads.Asked, put-ends-reads.Learnt, stand-reads.Asked, stand-reads.Learnt, last-group-reads.Asked, last-group-reads.Learnt, open-group-reads.Asked, open-group-reads.Learnt, count-of-reads.Asked, count-of-reads.Learnt, put-value-below t, put-value.Post) (put-fields-at t) put-fields.Post put-fields-Inv-loop put-fields-μ-loop
+put-fields-mul-open-group-2 t c = omega (arith, c .before .before .before .last-group .ensures (c .before .before .if2 .taken))
 
--- src/lib.rt:167:16
-put-value-shared-slice-read-kind : put-value-need put-value-lts.Need-shared-slice-read-kind
-put-value-shared-slice-read-kind t c = search needs
+-- src/lib.rt:287:48
+put-fields-shared-slice-read-open-group-2 :
+    (t : ℕ) → put-fields-lts.Need-shared-slice-read-open-group-2 (
+      put-plain-reads.Asked,
+      put-plain-reads.Learnt,
+      put-ends-reads.Asked,
+      put-ends-reads.Learnt,
+      stand-reads.Asked,
+      stand-reads.Learnt,
+      last-group-reads.Asked,
+      last-group-reads.Learnt,
+      open-group-reads.Asked,
+      open-group-reads.Learnt,
+      count-of-reads.Asked,
+      count-of-reads.Learnt,
+      put-value-below t,
+      put-value.Post,
+    ) (put-fields-at t) put-fields.Post put-fields-Inv-loop put-fields-μ-loop
+put-fields-shared-slice-read-open-group-2 t c = omega (arith, c .before .before .before .before .last-group .ensures (c .before .before .before .if2 .taken))
 
--- src/lib.rt:168:19
-put-value-add-x : put-value-need put-value-lts.Need-add-x
-put-value-add-x t c = search needs
+-- src/lib.rt:287:13
+put-fields-open-group-requires : (t : ℕ) → put-fields-lts.Need-open-group-requires (put-plain-reads.Asked, put-plain-reads.Learnt, put-ends-reads.Asked, put-ends-reads.Learnt, stand-reads.Asked, stand-reads.Learnt, last-group-reads.Asked, last-group-reads.Learnt, open-group-reads.Asked, open-group-reads.Learnt, count-of-reads.Asked, count-of-reads.Learnt, put-value-below t, put-value.Post) (put-fields-at t) put-fields.Post put-fields-Inv-loop put-fields-μ-loop
+put-fields-open-group-requires t c κs = omega (arith, (laws.walk-plain (c .before .before .before .before .before .before .before .before .before .before .before .before .before .before .args .words .now) (c .before .before .before .before .before .before .before .before .before .before .before .before .before .before .args .pool .now) (c .before .before .before .before .before .before .before .before .before .before .before .before .before .before .args .word) (c .before .before .before .before .before .before .before .before .before .before .before .before .before .before .args .from) (c .before .before .before .before .before .before .before .before .before .before .before .before .before .before .args .start) (c .before .before .before .before .before .before .before .before .before .before .before .before .before .before .args .count) (c .before .before .before .before .before .before .before .before .before .before .before .before .before .before .args .out .now) (c .before .before .before .before .before .before .before .before .before .before .loop .w) (c .before .before .before .before .before .before .before .before .before .before .loop .p) (c .before .before .before .before .before .before .before .before .before .before .loop .at) (c .before .before .before .before .before .before .before .before .before .before .loop .left) (c .before .before .before .before .before .before .before .before .before .before .loop .ends) (c .before .before .before .before .before .before .before .before .before .before .loop .out) (c .before .before .before .before .before .before .before .before .before .before .loop .inv) (c .before .before .before .before .before .before .before .before .put-plain .result) _ (c .before .before .before .before .before .before .before .before .put-plain .ensures)) .at-in, (laws.walk-plain (c .before .before .before .before .before .before .before .before .before .before .before .before .before .before .args .words .now) (c .before .before .before .before .before .before .before .before .before .before .before .before .before .before .args .pool .now) (c .before .before .before .before .before .before .before .before .before .before .before .before .before .before .args .word) (c .before .before .before .before .before .before .before .before .before .before .before .before .before .before .args .from) (c .before .before .before .before .before .before .before .before .before .before .before .before .before .before .args .start) (c .before .before .before .before .before .before .before .before .before .before .before .before .before .before .args .count) (c .before .before .before .before .before .before .before .before .before .before .before .before .before .before .args .out .now) (c .before .before .before .before .before .before .before .before .before .before .loop .w) (c .before .before .before .before .before .before .before .before .before .before .loop .p) (c .before .before .before .before .before .before .before .before .before .before .loop .at) (c .before .before .before .before .before .before .before .before .before .before .loop .left) (c .before .before .before .before .before .before .before .before .before .before .loop .ends) (c .before .before .before .before .before .before .before .before .before .before .loop .out) (c .before .before .before .before .before .before .before .before .before .before .loop .inv) (c .before .before .before .before .before .before .before .before .put-plain .result) _ (c .before .before .before .before .before .before .before .before .put-plain .ensures)) .kept)
 
--- src/lib.rt:168:13
-put-value-mul-x : put-value-need put-value-lts.Need-mul-x
-put-value-mul-x t c = search needs
+-- src/lib.rt:288:29
+put-fields-mul-count-of : (t : ℕ) → put-fields-lts.Need-mul-count-of (put-plain-reads.Asked, put-plain-reads.Learnt, put-ends-reads.Asked, put-ends-reads.Learnt, stand-reads.Asked, stand-reads.Learnt, last-group-reads.Asked, last-group-reads.Learnt, open-group-reads.Asked, open-group-reads.Learnt, count-of-reads.Asked, count-of-reads.Learnt, put-value-below t, put-value.Post) (put-fields-at t) put-fields.Post put-fields-Inv-loop put-fields-μ-loop
+put-fields-mul-count-of t c = search needs
 
--- src/lib.rt:168:13
-put-value-shared-slice-read-x : put-value-need put-value-lts.Need-shared-slice-read-x
-put-value-shared-slice-read-x t c = search needs
+-- src/lib.rt:288:29
+put-fields-shared-slice-read-count-of : (t : ℕ) → put-fields-lts.Need-shared-slice-read-count-of (put-plain-reads.Asked, put-plain-reads.Learnt, put-ends-reads.Asked, put-ends-reads.Learnt, stand-reads.Asked, stand-reads.Learnt, last-group-reads.Asked, last-group-reads.Learnt, open-group-reads.Asked, open-group-reads.Learnt, count-of-reads.Asked, count-of-reads.Learnt, put-value-below t, put-value.Post) (put-fields-at t) put-fields.Post put-fields-Inv-loop put-fields-μ-loop
+put-fields-shared-slice-read-count-of t c = omega (arith, c .before .before .before .before .before .before .before .before .last-group .ensures (c .before .before .before .before .before .before .before .if2 .taken))
 
--- src/lib.rt:170:13
-put-value-run-of-requires : put-value-need put-value-lts.Need-run-of-requires
-put-value-run-of-requires t c κs = search needs
+-- src/lib.rt:288:45
+put-fields-add-count-of : (t : ℕ) → put-fields-lts.Need-add-count-of (put-plain-reads.Asked, put-plain-reads.Learnt, put-ends-reads.Asked, put-ends-reads.Learnt, stand-reads.Asked, stand-reads.Learnt, last-group-reads.Asked, last-group-reads.Learnt, open-group-reads.Asked, open-group-reads.Learnt, count-of-reads.Asked, count-of-reads.Learnt, put-value-below t, put-value.Post) (put-fields-at t) put-fields.Post put-fields-Inv-loop put-fields-μ-loop
+put-fields-add-count-of t c = omega (arith, c .before .before .before .before .before .before .before .before .last-group .ensures (c .before .before .before .before .before .before .before .if2 .taken))
 
--- src/lib.rt:171:12
-put-value-sub-if3 : put-value-need put-value-lts.Need-sub-if3
-put-value-sub-if3 t c = search needs
+-- src/lib.rt:288:39
+put-fields-mul-count-of-2 : (t : ℕ) → put-fields-lts.Need-mul-count-of-2 (put-plain-reads.Asked, put-plain-reads.Learnt, put-ends-reads.Asked, put-ends-reads.Learnt, stand-reads.Asked, stand-reads.Learnt, last-group-reads.Asked, last-group-reads.Learnt, open-group-reads.Asked, open-group-reads.Learnt, count-of-reads.Asked, count-of-reads.Learnt, put-value-below t, put-value.Post) (put-fields-at t) put-fields.Post put-fields-Inv-loop put-fields-μ-loop
+put-fields-mul-count-of-2 t c = omega (arith, c .before .before .before .before .before .before .before .before .last-group .ensures (c .before .before .before .before .before .before .before .if2 .taken))
 
--- src/lib.rt:172:13
-put-value-returns-2 : put-value-need put-value-lts.Need-returns-2
-put-value-returns-2 t c = let s = c .before .before .before .before .before .before .before .before .before in let a = s .args in let q = s .pre .1 in record { onward = record { on = omega arith; word-in = q .word-in; pool-in = q .pool-in; at-in = q .at-in; kept = refl }; says = laws.too-long (a .words .now) (a .pool .now) (a .s .word) (a .s .pool) (a .s .at) (a .out .now) _ _ _ _ refl refl (c .before .before .if2 .taken) (omega (arith, c .before .run-of .ensures, c .if3 .taken)) }
+-- src/lib.rt:288:39
+put-fields-shared-slice-read-count-of-2 :
+    (t : ℕ) → put-fields-lts.Need-shared-slice-read-count-of-2 (
+      put-plain-reads.Asked,
+      put-plain-reads.Learnt,
+      put-ends-reads.Asked,
+      put-ends-reads.Learnt,
+      stand-reads.Asked,
+      stand-reads.Learnt,
+      last-group-reads.Asked,
+      last-group-reads.Learnt,
+      open-group-reads.Asked,
+      open-group-reads.Learnt,
+      count-of-reads.Asked,
+      count-of-reads.Learnt,
+      put-value-below t,
+      put-value.Post,
+    ) (put-fields-at t) put-fields.Post put-fields-Inv-loop put-fields-μ-loop
+put-fields-shared-slice-read-count-of-2 t c = omega (arith, c .before .before .before .before .before .before .before .before .before .last-group .ensures (c .before .before .before .before .before .before .before .before .if2 .taken))
 
--- src/lib.rt:174:59
-put-value-add-put-scalar : put-value-need put-value-lts.Need-add-put-scalar
-put-value-add-put-scalar t c = search needs
+-- src/lib.rt:288:13
+put-fields-count-of-requires : (t : ℕ) → put-fields-lts.Need-count-of-requires (put-plain-reads.Asked, put-plain-reads.Learnt, put-ends-reads.Asked, put-ends-reads.Learnt, stand-reads.Asked, stand-reads.Learnt, last-group-reads.Asked, last-group-reads.Learnt, open-group-reads.Asked, open-group-reads.Learnt, count-of-reads.Asked, count-of-reads.Learnt, put-value-below t, put-value.Post) (put-fields-at t) put-fields.Post put-fields-Inv-loop put-fields-μ-loop
+put-fields-count-of-requires t c κs = search needs
 
--- src/lib.rt:174:13
-put-value-put-scalar-requires : put-value-need put-value-lts.Need-put-scalar-requires
-put-value-put-scalar-requires t c κs = search needs
+-- src/lib.rt:289:13
+put-fields-add-w : (t : ℕ) → put-fields-lts.Need-add-w (put-plain-reads.Asked, put-plain-reads.Learnt, put-ends-reads.Asked, put-ends-reads.Learnt, stand-reads.Asked, stand-reads.Learnt, last-group-reads.Asked, last-group-reads.Learnt, open-group-reads.Asked, open-group-reads.Learnt, count-of-reads.Asked, count-of-reads.Learnt, put-value-below t, put-value.Post) (put-fields-at t) put-fields.Post put-fields-Inv-loop put-fields-μ-loop
+put-fields-add-w t c = omega (arith, c .before .before .before .before .before .before .before .before .before .before .last-group .ensures (c .before .before .before .before .before .before .before .before .before .if2 .taken))
 
--- src/lib.rt:175:22
-put-value-add-stand : put-value-need put-value-lts.Need-add-stand
-put-value-add-stand t c = search needs
+-- src/lib.rt:290:13
+put-fields-add-ends : (t : ℕ) → put-fields-lts.Need-add-ends (put-plain-reads.Asked, put-plain-reads.Learnt, put-ends-reads.Asked, put-ends-reads.Learnt, stand-reads.Asked, stand-reads.Learnt, last-group-reads.Asked, last-group-reads.Learnt, open-group-reads.Asked, open-group-reads.Learnt, count-of-reads.Asked, count-of-reads.Learnt, put-value-below t, put-value.Post) (put-fields-at t) put-fields.Post put-fields-Inv-loop put-fields-μ-loop
+put-fields-add-ends t c = omega (arith, (laws.walk-plain (c .before .before .before .before .before .before .before .before .before .before .before .before .before .before .before .before .before .before .before .before .args .words .now) (c .before .before .before .before .before .before .before .before .before .before .before .before .before .before .before .before .before .before .before .before .args .pool .now) (c .before .before .before .before .before .before .before .before .before .before .before .before .before .before .before .before .before .before .before .before .args .word) (c .before .before .before .before .before .before .before .before .before .before .before .before .before .before .before .before .before .before .before .before .args .from) (c .before .before .before .before .before .before .before .before .before .before .before .before .before .before .before .before .before .before .before .before .args .start) (c .before .before .before .before .before .before .before .before .before .before .before .before .before .before .before .before .before .before .before .before .args .count) (c .before .before .before .before .before .before .before .before .before .before .before .before .before .before .before .before .before .before .before .before .args .out .now) (c .before .before .before .before .before .before .before .before .before .before .before .before .before .before .before .before .loop .w) (c .before .before .before .before .before .before .before .before .before .before .before .before .before .before .before .before .loop .p) (c .before .before .before .before .before .before .before .before .before .before .before .before .before .before .before .before .loop .at) (c .before .before .before .before .before .before .before .before .before .before .before .before .before .before .before .before .loop .left) (c .before .before .before .before .before .before .before .before .before .before .before .before .before .before .before .before .loop .ends) (c .before .before .before .before .before .before .before .before .before .before .before .before .before .before .before .before .loop .out) (c .before .before .before .before .before .before .before .before .before .before .before .before .before .before .before .before .loop .inv) (c .before .before .before .before .before .before .before .before .before .before .before .before .before .before .put-plain .result) _ (c .before .before .before .before .before .before .before .before .before .before .before .before .before .before .put-plain .ensures)) .on, (laws.walk-plain (c .before .before .before .before .before .before .before .before .before .before .before .before .before .before .before .before .before .before .before .before .args .words .now) (c .before .before .before .before .before .before .before .before .before .before .before .before .before .before .before .before .before .before .before .before .args .pool .now) (c .before .before .before .before .before .before .before .before .before .before .before .before .before .before .before .before .before .before .before .before .args .word) (c .before .before .before .before .before .before .before .before .before .before .before .before .before .before .before .before .before .before .before .before .args .from) (c .before .before .before .before .before .before .before .before .before .before .before .before .before .before .before .before .before .before .before .before .args .start) (c .before .before .before .before .before .before .before .before .before .before .before .before .before .before .before .before .before .before .before .before .args .count) (c .before .before .before .before .before .before .before .before .before .before .before .before .before .before .before .before .before .before .before .before .args .out .now) (c .before .before .before .before .before .before .before .before .before .before .before .before .before .before .before .before .loop .w) (c .before .before .before .before .before .before .before .before .before .before .before .before .before .before .before .before .loop .p) (c .before .before .before .before .before .before .before .before .before .before .before .before .before .before .before .before .loop .at) (c .before .before .before .before .before .before .before .before .before .before .before .before .before .before .before .before .loop .left) (c .before .before .before .before .before .before .before .before .before .before .before .before .before .before .before .before .loop .ends) (c .before .before .before .before .before .before .before .before .before .before .before .before .before .before .before .before .loop .out) (c .before .before .before .before .before .before .before .before .before .before .before .before .before .before .before .before .loop .inv) (c .before .before .before .before .before .before .before .before .before .before .before .before .before .before .put-plain .result) _ (c .before .before .before .before .before .before .before .before .before .before .before .before .before .before .put-plain .ensures)) .word-in)
 
--- src/lib.rt:175:29
-put-value-add-stand-2 : put-value-need put-value-lts.Need-add-stand-2
-put-value-add-stand-2 t c = search needs
+-- src/lib.rt:276:5
+put-fields-loop-less : (t : ℕ) → put-fields-lts.Need-loop-less (put-plain-reads.Asked, put-plain-reads.Learnt, put-ends-reads.Asked, put-ends-reads.Learnt, stand-reads.Asked, stand-reads.Learnt, last-group-reads.Asked, last-group-reads.Learnt, open-group-reads.Asked, open-group-reads.Learnt, count-of-reads.Asked, count-of-reads.Learnt, put-value-below t, put-value.Post) (put-fields-at t) put-fields.Post put-fields-Inv-loop put-fields-μ-loop
+put-fields-loop-less t c = omega (arith, c .before .before .before .before .before .before .before .before .before .before .last-group .ensures (c .before .before .before .before .before .before .before .before .before .if2 .taken), c .before .before .before .before .before .before .before .before .before .before .before .before .before .before .put-plain .ensures .onward .on, c .before .before .before .before .before .before .before .before .before .before .before .before .before .before .put-plain .ensures .fewer, c .count-of .ensures, laws.count-small (getD (c .before .before .before .before .before .before .before .before .before .before .before .before .before .before .before .before .before .before .before .before .args .words .now) (c .before .before .before .before .before .before .before .before .before .before .before .before .before .before .put-plain .result .word) 0) (getD (c .before .before .before .before .before .before .before .before .before .before .before .before .before .before .before .before .before .before .before .before .args .words .now) (c .before .before .before .before .before .before .before .before .before .before .before .before .before .before .put-plain .result .word + 1) 0), c .before .shared-slice-known6 .given (c .before .before .before .before .before .before .before .before .before .before .before .before .before .before .put-plain .result .word + 1))
 
--- src/lib.rt:175:9
-put-value-stand-requires : put-value-need put-value-lts.Need-stand-requires
+-- src/lib.rt:276:5
+put-fields-loop-again : (t : ℕ) → put-fields-lts.Need-loop-again (put-plain-reads.Asked, put-plain-reads.Learnt, put-ends-reads.Asked, put-ends-reads.Learnt, stand-reads.Asked, stand-reads.Learnt, last-group-reads.Asked, last-group-reads.Learnt, open-group-reads.Asked, open-group-reads.Learnt, count-of-reads.Asked, count-of-reads.Learnt, put-value-below t, put-value.Post) (put-fields-at t) put-fields.Post put-fields-Inv-loop put-fields-μ-loop
+put-fields-loop-again t c = rw (c .count-of .ensures) (laws.walk-into (c .before .before .before .before .before .before .before .before .before .before .before .before .before .before .before .before .before .before .before .before .args .words .now) (c .before .before .before .before .before .before .before .before .before .before .before .before .before .before .before .before .before .before .before .before .args .pool .now) (c .before .before .before .before .before .before .before .before .before .before .before .before .before .before .before .before .before .before .before .before .args .word) (c .before .before .before .before .before .before .before .before .before .before .before .before .before .before .before .before .before .before .before .before .args .from) (c .before .before .before .before .before .before .before .before .before .before .before .before .before .before .before .before .before .before .before .before .args .start) (c .before .before .before .before .before .before .before .before .before .before .before .before .before .before .before .before .before .before .before .before .args .count) (c .before .before .before .before .before .before .before .before .before .before .before .before .before .before .before .before .before .before .before .before .args .out .now) (c .before .before .before .before .before .before .before .before .before .before .before .before .before .before .put-plain .result .word) (c .before .before .before .before .before .before .before .before .before .before .before .before .before .before .put-plain .result .pool) (c .before .before .before .before .before .before .before .before .before .before .before .before .before .before .put-plain .result .at) (c .before .before .before .before .before .before .before .before .before .before .before .before .before .before .put-plain .result .left) (c .before .before .before .before .before .before .before .before .before .before .before .before .before .before .before .before .loop .ends) _ (laws.walk-plain (c .before .before .before .before .before .before .before .before .before .before .before .before .before .before .before .before .before .before .before .before .args .words .now) (c .before .before .before .before .before .before .before .before .before .before .before .before .before .before .before .before .before .before .before .before .args .pool .now) (c .before .before .before .before .before .before .before .before .before .before .before .before .before .before .before .before .before .before .before .before .args .word) (c .before .before .before .before .before .before .before .before .before .before .before .before .before .before .before .before .before .before .before .before .args .from) (c .before .before .before .before .before .before .before .before .before .before .before .before .before .before .before .before .before .before .before .before .args .start) (c .before .before .before .before .before .before .before .before .before .before .before .before .before .before .before .before .before .before .before .before .args .count) (c .before .before .before .before .before .before .before .before .before .before .before .before .before .before .before .before .before .before .before .before .args .out .now) (c .before .before .before .before .before .before .before .before .before .before .before .before .before .before .before .before .loop .w) (c .before .before .before .before .before .before .before .before .before .before .before .before .before .before .before .before .loop .p) (c .before .before .before .before .before .before .before .before .before .before .before .before .before .before .before .before .loop .at) (c .before .before .before .before .before .before .before .before .before .before .before .before .before .before .before .before .loop .left) (c .before .before .before .before .before .before .before .before .before .before .before .before .before .before .before .before .loop .ends) (c .before .before .before .before .before .before .before .before .before .before .before .before .before .before .before .before .loop .out) (c .before .before .before .before .before .before .before .before .before .before .before .before .before .before .before .before .loop .inv) (c .before .before .before .before .before .before .before .before .before .before .before .before .before .before .put-plain .result) _ (c .before .before .before .before .before .before .before .before .before .before .before .before .before .before .put-plain .ensures)) _ _ (c .before .before .before .before .before .open-group .result) _ (c .before .before .before .before .before .before .before .before .before .before .last-group .ensures (c .before .before .before .before .before .before .before .before .before .if2 .taken) .0) (c .before .before .before .before .before .before .before .before .before .before .last-group .ensures (c .before .before .before .before .before .before .before .before .before .if2 .taken) .1) (omega (arith, c .before .before .before .before .before .before .before .before .before .before .last-group .ensures (c .before .before .before .before .before .before .before .before .before .if2 .taken) .2)) refl refl (c .before .before .before .before .before .open-group .ensures))
+
+-- src/lib.rt:292:17
+put-fields-put-value-requires : (t : ℕ) → put-fields-lts.Need-put-value-requires (put-plain-reads.Asked, put-plain-reads.Learnt, put-ends-reads.Asked, put-ends-reads.Learnt, stand-reads.Asked, stand-reads.Learnt, last-group-reads.Asked, last-group-reads.Learnt, open-group-reads.Asked, open-group-reads.Learnt, count-of-reads.Asked, count-of-reads.Learnt, put-value-below t, put-value.Post) (put-fields-at t) put-fields.Post put-fields-Inv-loop put-fields-μ-loop
+put-fields-put-value-requires t c κs = (omega (arith, c .before .before .before .before .before .before .before .before .before .before .before .before .pre .0, (laws.walk-plain (c .before .before .before .before .before .before .before .before .before .before .before .before .args .words .now) (c .before .before .before .before .before .before .before .before .before .before .before .before .args .pool .now) (c .before .before .before .before .before .before .before .before .before .before .before .before .args .word) (c .before .before .before .before .before .before .before .before .before .before .before .before .args .from) (c .before .before .before .before .before .before .before .before .before .before .before .before .args .start) (c .before .before .before .before .before .before .before .before .before .before .before .before .args .count) (c .before .before .before .before .before .before .before .before .before .before .before .before .args .out .now) (c .before .before .before .before .before .before .before .before .loop .w) (c .before .before .before .before .before .before .before .before .loop .p) (c .before .before .before .before .before .before .before .before .loop .at) (c .before .before .before .before .before .before .before .before .loop .left) (c .before .before .before .before .before .before .before .before .loop .ends) (c .before .before .before .before .before .before .before .before .loop .out) (c .before .before .before .before .before .before .before .before .loop .inv) (c .before .before .before .before .before .before .put-plain .result) _ (c .before .before .before .before .before .before .put-plain .ensures)) .on, (laws.walk-plain (c .before .before .before .before .before .before .before .before .before .before .before .before .args .words .now) (c .before .before .before .before .before .before .before .before .before .before .before .before .args .pool .now) (c .before .before .before .before .before .before .before .before .before .before .before .before .args .word) (c .before .before .before .before .before .before .before .before .before .before .before .before .args .from) (c .before .before .before .before .before .before .before .before .before .before .before .before .args .start) (c .before .before .before .before .before .before .before .before .before .before .before .before .args .count) (c .before .before .before .before .before .before .before .before .before .before .before .before .args .out .now) (c .before .before .before .before .before .before .before .before .loop .w) (c .before .before .before .before .before .before .before .before .loop .p) (c .before .before .before .before .before .before .before .before .loop .at) (c .before .before .before .before .before .before .before .before .loop .left) (c .before .before .before .before .before .before .before .before .loop .ends) (c .before .before .before .before .before .before .before .before .loop .out) (c .before .before .before .before .before .before .before .before .loop .inv) (c .before .before .before .before .before .before .put-plain .result) _ (c .before .before .before .before .before .before .put-plain .ensures)) .word-in), record { word-in = (laws.walk-plain (c .before .before .before .before .before .before .before .before .before .before .before .before .args .words .now) (c .before .before .before .before .before .before .before .before .before .before .before .before .args .pool .now) (c .before .before .before .before .before .before .before .before .before .before .before .before .args .word) (c .before .before .before .before .before .before .before .before .before .before .before .before .args .from) (c .before .before .before .before .before .before .before .before .before .before .before .before .args .start) (c .before .before .before .before .before .before .before .before .before .before .before .before .args .count) (c .before .before .before .before .before .before .before .before .before .before .before .before .args .out .now) (c .before .before .before .before .before .before .before .before .loop .w) (c .before .before .before .before .before .before .before .before .loop .p) (c .before .before .before .before .before .before .before .before .loop .at) (c .before .before .before .before .before .before .before .before .loop .left) (c .before .before .before .before .before .before .before .before .loop .ends) (c .before .before .before .before .before .before .before .before .loop .out) (c .before .before .before .before .before .before .before .before .loop .inv) (c .before .before .before .before .before .before .put-plain .result) _ (c .before .before .before .before .before .before .put-plain .ensures)) .word-in; pool-in = (laws.walk-plain (c .before .before .before .before .before .before .before .before .before .before .before .before .args .words .now) (c .before .before .before .before .before .before .before .before .before .before .before .before .args .pool .now) (c .before .before .before .before .before .before .before .before .before .before .before .before .args .word) (c .before .before .before .before .before .before .before .before .before .before .before .before .args .from) (c .before .before .before .before .before .before .before .before .before .before .before .before .args .start) (c .before .before .before .before .before .before .before .before .before .before .before .before .args .count) (c .before .before .before .before .before .before .before .before .before .before .before .before .args .out .now) (c .before .before .before .before .before .before .before .before .loop .w) (c .before .before .before .before .before .before .before .before .loop .p) (c .before .before .before .before .before .before .before .before .loop .at) (c .before .before .before .before .before .before .before .before .loop .left) (c .before .before .before .before .before .before .before .before .loop .ends) (c .before .before .before .before .before .before .before .before .loop .out) (c .before .before .before .before .before .before .before .before .loop .inv) (c .before .before .before .before .before .before .put-plain .result) _ (c .before .before .before .before .before .before .put-plain .ensures)) .pool-in; at-in = omega (arith, (laws.walk-plain (c .before .before .before .before .before .before .before .before .before .before .before .before .args .words .now) (c .before .before .before .before .before .before .before .before .before .before .before .before .args .pool .now) (c .before .before .before .before .before .before .before .before .before .before .before .before .args .word) (c .before .before .before .before .before .before .before .before .before .before .before .before .args .from) (c .before .before .before .before .before .before .before .before .before .before .before .before .args .start) (c .before .before .before .before .before .before .before .before .before .before .before .before .args .count) (c .before .before .before .before .before .before .before .before .before .before .before .before .args .out .now) (c .before .before .before .before .before .before .before .before .loop .w) (c .before .before .before .before .before .before .before .before .loop .p) (c .before .before .before .before .before .before .before .before .loop .at) (c .before .before .before .before .before .before .before .before .loop .left) (c .before .before .before .before .before .before .before .before .loop .ends) (c .before .before .before .before .before .before .before .before .loop .out) (c .before .before .before .before .before .before .before .before .loop .inv) (c .before .before .before .before .before .before .put-plain .result) _ (c .before .before .before .before .before .before .put-plain .ensures)) .at-in, (laws.walk-plain (c .before .before .before .before .before .before .before .before .before .before .before .before .args .words .now) (c .before .before .before .before .before .before .before .before .before .before .before .before .args .pool .now) (c .before .before .before .before .before .before .before .before .before .before .before .before .args .word) (c .before .before .before .before .before .before .before .before .before .before .before .before .args .from) (c .before .before .before .before .before .before .before .before .before .before .before .before .args .start) (c .before .before .before .before .before .before .before .before .before .before .before .before .args .count) (c .before .before .before .before .before .before .before .before .before .before .before .before .args .out .now) (c .before .before .before .before .before .before .before .before .loop .w) (c .before .before .before .before .before .before .before .before .loop .p) (c .before .before .before .before .before .before .before .before .loop .at) (c .before .before .before .before .before .before .before .before .loop .left) (c .before .before .before .before .before .before .before .before .loop .ends) (c .before .before .before .before .before .before .before .before .loop .out) (c .before .before .before .before .before .before .before .before .loop .inv) (c .before .before .before .before .before .before .put-plain .result) _ (c .before .before .before .before .before .before .put-plain .ensures)) .kept) })
+
+-- src/lib.rt:296:13
+put-fields-sub-left : (t : ℕ) → put-fields-lts.Need-sub-left (put-plain-reads.Asked, put-plain-reads.Learnt, put-ends-reads.Asked, put-ends-reads.Learnt, stand-reads.Asked, stand-reads.Learnt, last-group-reads.Asked, last-group-reads.Learnt, open-group-reads.Asked, open-group-reads.Learnt, count-of-reads.Asked, count-of-reads.Learnt, put-value-below t, put-value.Post) (put-fields-at t) put-fields.Post put-fields-Inv-loop put-fields-μ-loop
+put-fields-sub-left t c = omega (arith, c .before .before .before .before .before .before .if1 .left)
+
+-- src/lib.rt:276:5
+put-fields-loop-less-2 : (t : ℕ) → put-fields-lts.Need-loop-less-2 (put-plain-reads.Asked, put-plain-reads.Learnt, put-ends-reads.Asked, put-ends-reads.Learnt, stand-reads.Asked, stand-reads.Learnt, last-group-reads.Asked, last-group-reads.Learnt, open-group-reads.Asked, open-group-reads.Learnt, count-of-reads.Asked, count-of-reads.Learnt, put-value-below t, put-value.Post) (put-fields-at t) put-fields.Post put-fields-Inv-loop put-fields-μ-loop
+put-fields-loop-less-2 t c = omega (arith, c .before .before .before .before .before .before .if1 .left, c .before .before .put-value .ensures .onward .on, c .before .before .before .before .before .before .before .before .before .put-plain .ensures .onward .on, c .before .before .before .before .before .before .before .before .before .put-plain .ensures .fewer)
+
+-- src/lib.rt:276:5
+put-fields-loop-again-2 : (t : ℕ) → put-fields-lts.Need-loop-again-2 (put-plain-reads.Asked, put-plain-reads.Learnt, put-ends-reads.Asked, put-ends-reads.Learnt, stand-reads.Asked, stand-reads.Learnt, last-group-reads.Asked, last-group-reads.Learnt, open-group-reads.Asked, open-group-reads.Learnt, count-of-reads.Asked, count-of-reads.Learnt, put-value-below t, put-value.Post) (put-fields-at t) put-fields.Post put-fields-Inv-loop put-fields-μ-loop
+put-fields-loop-again-2 t c = laws.walk-value (c .before .before .before .before .before .before .before .before .before .before .before .before .before .before .before .args .words .now) (c .before .before .before .before .before .before .before .before .before .before .before .before .before .before .before .args .pool .now) (c .before .before .before .before .before .before .before .before .before .before .before .before .before .before .before .args .word) (c .before .before .before .before .before .before .before .before .before .before .before .before .before .before .before .args .from) (c .before .before .before .before .before .before .before .before .before .before .before .before .before .before .before .args .start) (c .before .before .before .before .before .before .before .before .before .before .before .before .before .before .before .args .count) (c .before .before .before .before .before .before .before .before .before .before .before .before .before .before .before .args .out .now) (c .before .before .before .before .before .before .before .before .before .put-plain .result .word) (c .before .before .before .before .before .before .before .before .before .put-plain .result .pool) (c .before .before .before .before .before .before .before .before .before .put-plain .result .at) (c .before .before .before .before .before .before .before .before .before .put-plain .result .left) (c .before .before .before .before .before .before .before .before .before .before .before .loop .ends) _ (laws.walk-plain (c .before .before .before .before .before .before .before .before .before .before .before .before .before .before .before .args .words .now) (c .before .before .before .before .before .before .before .before .before .before .before .before .before .before .before .args .pool .now) (c .before .before .before .before .before .before .before .before .before .before .before .before .before .before .before .args .word) (c .before .before .before .before .before .before .before .before .before .before .before .before .before .before .before .args .from) (c .before .before .before .before .before .before .before .before .before .before .before .before .before .before .before .args .start) (c .before .before .before .before .before .before .before .before .before .before .before .before .before .before .before .args .count) (c .before .before .before .before .before .before .before .before .before .before .before .before .before .before .before .args .out .now) (c .before .before .before .before .before .before .before .before .before .before .before .loop .w) (c .before .before .before .before .before .before .before .before .before .before .before .loop .p) (c .before .before .before .before .before .before .before .before .before .before .before .loop .at) (c .before .before .before .before .before .before .before .before .before .before .before .loop .left) (c .before .before .before .before .before .before .before .before .before .before .before .loop .ends) (c .before .before .before .before .before .before .before .before .before .before .before .loop .out) (c .before .before .before .before .before .before .before .before .before .before .before .loop .inv) (c .before .before .before .before .before .before .before .before .before .put-plain .result) _ (c .before .before .before .before .before .before .before .before .before .put-plain .ensures)) (c .before .before .put-value .result) _ (c .before .before .before .before .before .before .if1 .left) (c .before .before .put-value .ensures)
+
+-- src/lib.rt:239:8
+put-value-sub-if1 : (t : ℕ) → put-value-lts.Need-sub-if1 (stand-reads.Asked, stand-reads.Learnt, run-of-reads.Asked, run-of-reads.Learnt, put-scalar-reads.Asked, put-scalar-reads.Learnt, open-group-reads.Asked, open-group-reads.Learnt, count-of-reads.Asked, count-of-reads.Learnt, put-fields-below t, put-fields.Post, put-byte-reads.Asked, put-byte-reads.Learnt) (put-value-at t) put-value.Post
+put-value-sub-if1 t c = omega (arith, c .before .before .before .pre .1 .word-in)
+
+-- src/lib.rt:240:9
+put-value-stand-requires : (t : ℕ) → put-value-lts.Need-stand-requires (stand-reads.Asked, stand-reads.Learnt, run-of-reads.Asked, run-of-reads.Learnt, put-scalar-reads.Asked, put-scalar-reads.Learnt, open-group-reads.Asked, open-group-reads.Learnt, count-of-reads.Asked, count-of-reads.Learnt, put-fields-below t, put-fields.Post, put-byte-reads.Asked, put-byte-reads.Learnt) (put-value-at t) put-value.Post
 put-value-stand-requires t c κs = search needs
 
--- src/lib.rt:175:9
-put-value-same-length : put-value-need put-value-lts.Need-same-length
-put-value-same-length t c = search needs
+-- src/lib.rt:240:9
+put-value-returns : (t : ℕ) → put-value-lts.Need-returns (stand-reads.Asked, stand-reads.Learnt, run-of-reads.Asked, run-of-reads.Learnt, put-scalar-reads.Asked, put-scalar-reads.Learnt, open-group-reads.Asked, open-group-reads.Learnt, count-of-reads.Asked, count-of-reads.Learnt, put-fields-below t, put-fields.Post, put-byte-reads.Asked, put-byte-reads.Learnt) (put-value-at t) put-value.Post
+put-value-returns t c = rw (c .stand .ensures) (record { onward = record { on = omega arith; word-in = c .before .before .before .before .before .pre .1 .word-in; pool-in = c .before .before .before .before .before .pre .1 .pool-in; at-in = c .before .before .before .before .before .pre .1 .at-in; kept = refl }; says = laws.short (c .before .before .before .before .before .args .words .now) (c .before .before .before .before .before .args .pool .now) (c .before .before .before .before .before .args .word) (c .before .before .before .before .before .args .from) (c .before .before .before .before .before .args .at) (c .before .before .before .before .before .args .out .now) _ _ (c .before .if1 .taken) })
 
--- src/lib.rt:175:9
-put-value-returns-3 : put-value-need put-value-lts.Need-returns-3
-put-value-returns-3 t c = let s = c .before .before .before .before .before .before .before .before .before .before .before .before .before .before in let a = s .args in let q = s .pre .1 in let st = c .before .before .before .put-scalar .ensures in rw (c .stand .ensures) (record { onward = record { on = omega arith; word-in = omega (arith, c .before .before .before .before .before .before .before .before .before .before .if1 .left, q .word-in); pool-in = omega (arith, c .before .before .before .before .before .if3 .left, q .pool-in); at-in = st .inside; kept = st .kept }; says = laws.a-plain (a .words .now) (a .pool .now) (a .s .word) (a .s .pool) (a .s .at) (a .out .now) _ _ _ _ refl refl (c .before .before .before .before .before .before .before .if2 .taken) _ (c .before .before .before .before .before .before .run-of .ensures) st refl refl })
+-- src/lib.rt:242:16
+put-value-mul-kind : (t : ℕ) → put-value-lts.Need-mul-kind (stand-reads.Asked, stand-reads.Learnt, run-of-reads.Asked, run-of-reads.Learnt, put-scalar-reads.Asked, put-scalar-reads.Learnt, open-group-reads.Asked, open-group-reads.Learnt, count-of-reads.Asked, count-of-reads.Learnt, put-fields-below t, put-fields.Post, put-byte-reads.Asked, put-byte-reads.Learnt) (put-value-at t) put-value.Post
+put-value-mul-kind t c = search needs
 
--- src/lib.rt:178:13
-put-value-put-byte-requires : put-value-need put-value-lts.Need-put-byte-requires
-put-value-put-byte-requires t c κs = search needs
+-- src/lib.rt:242:16
+put-value-shared-slice-read-kind : (t : ℕ) → put-value-lts.Need-shared-slice-read-kind (stand-reads.Asked, stand-reads.Learnt, run-of-reads.Asked, run-of-reads.Learnt, put-scalar-reads.Asked, put-scalar-reads.Learnt, open-group-reads.Asked, open-group-reads.Learnt, count-of-reads.Asked, count-of-reads.Learnt, put-fields-below t, put-fields.Post, put-byte-reads.Asked, put-byte-reads.Learnt) (put-value-at t) put-value.Post
+put-value-shared-slice-read-kind t c = search needs
 
--- src/lib.rt:179:52
-put-value-add-stand-3 : put-value-need put-value-lts.Need-add-stand-3
-put-value-add-stand-3 t c = search needs
+-- src/lib.rt:243:19
+put-value-add-x : (t : ℕ) → put-value-lts.Need-add-x (stand-reads.Asked, stand-reads.Learnt, run-of-reads.Asked, run-of-reads.Learnt, put-scalar-reads.Asked, put-scalar-reads.Learnt, open-group-reads.Asked, open-group-reads.Learnt, count-of-reads.Asked, count-of-reads.Learnt, put-fields-below t, put-fields.Post, put-byte-reads.Asked, put-byte-reads.Learnt) (put-value-at t) put-value.Post
+put-value-add-x t c = search needs
 
--- src/lib.rt:179:46
-put-value-stand-requires-2 : put-value-need put-value-lts.Need-stand-requires-2
+-- src/lib.rt:243:13
+put-value-mul-x : (t : ℕ) → put-value-lts.Need-mul-x (stand-reads.Asked, stand-reads.Learnt, run-of-reads.Asked, run-of-reads.Learnt, put-scalar-reads.Asked, put-scalar-reads.Learnt, open-group-reads.Asked, open-group-reads.Learnt, count-of-reads.Asked, count-of-reads.Learnt, put-fields-below t, put-fields.Post, put-byte-reads.Asked, put-byte-reads.Learnt) (put-value-at t) put-value.Post
+put-value-mul-x t c = search needs
+
+-- src/lib.rt:243:13
+put-value-shared-slice-read-x : (t : ℕ) → put-value-lts.Need-shared-slice-read-x (stand-reads.Asked, stand-reads.Learnt, run-of-reads.Asked, run-of-reads.Learnt, put-scalar-reads.Asked, put-scalar-reads.Learnt, open-group-reads.Asked, open-group-reads.Learnt, count-of-reads.Asked, count-of-reads.Learnt, put-fields-below t, put-fields.Post, put-byte-reads.Asked, put-byte-reads.Learnt) (put-value-at t) put-value.Post
+put-value-shared-slice-read-x t c = search needs
+
+-- src/lib.rt:245:13
+put-value-run-of-requires : (t : ℕ) → put-value-lts.Need-run-of-requires (stand-reads.Asked, stand-reads.Learnt, run-of-reads.Asked, run-of-reads.Learnt, put-scalar-reads.Asked, put-scalar-reads.Learnt, open-group-reads.Asked, open-group-reads.Learnt, count-of-reads.Asked, count-of-reads.Learnt, put-fields-below t, put-fields.Post, put-byte-reads.Asked, put-byte-reads.Learnt) (put-value-at t) put-value.Post
+put-value-run-of-requires t c κs = search needs
+
+-- src/lib.rt:246:12
+put-value-sub-if3 : (t : ℕ) → put-value-lts.Need-sub-if3 (stand-reads.Asked, stand-reads.Learnt, run-of-reads.Asked, run-of-reads.Learnt, put-scalar-reads.Asked, put-scalar-reads.Learnt, open-group-reads.Asked, open-group-reads.Learnt, count-of-reads.Asked, count-of-reads.Learnt, put-fields-below t, put-fields.Post, put-byte-reads.Asked, put-byte-reads.Learnt) (put-value-at t) put-value.Post
+put-value-sub-if3 t c = omega (arith, c .before .before .before .before .before .before .before .before .pre .1 .pool-in)
+
+-- src/lib.rt:247:13
+put-value-stand-requires-2 : (t : ℕ) → put-value-lts.Need-stand-requires-2 (stand-reads.Asked, stand-reads.Learnt, run-of-reads.Asked, run-of-reads.Learnt, put-scalar-reads.Asked, put-scalar-reads.Learnt, open-group-reads.Asked, open-group-reads.Learnt, count-of-reads.Asked, count-of-reads.Learnt, put-fields-below t, put-fields.Post, put-byte-reads.Asked, put-byte-reads.Learnt) (put-value-at t) put-value.Post
 put-value-stand-requires-2 t c κs = search needs
 
--- src/lib.rt:179:13
-put-value-put-fields-requires : put-value-need put-value-lts.Need-put-fields-requires
-put-value-put-fields-requires t c κs = let s = c .before .before .before .before .before .before .before .before .before .before .before .before .before .before in let a = s .args in let q = s .pre .1 in let st = c .before .before .before .before .put-byte .ensures in rw (c .stand2 .ensures) (omega (arith, s .pre .0, c .before .before .before .before .before .before .before .before .before .before .if1 .left, q .word-in), record { word-in = omega (arith, c .before .before .before .before .before .before .before .before .before .before .if1 .left, q .word-in); pool-in = q .pool-in; at-in = omega (arith, st .inside, st .kept) })
+-- src/lib.rt:247:13
+put-value-returns-2 : (t : ℕ) → put-value-lts.Need-returns-2 (stand-reads.Asked, stand-reads.Learnt, run-of-reads.Asked, run-of-reads.Learnt, put-scalar-reads.Asked, put-scalar-reads.Learnt, open-group-reads.Asked, open-group-reads.Learnt, count-of-reads.Asked, count-of-reads.Learnt, put-fields-below t, put-fields.Post, put-byte-reads.Asked, put-byte-reads.Learnt) (put-value-at t) put-value.Post
+put-value-returns-2 t c = rw (c .stand2 .ensures) (record { onward = record { on = omega arith; word-in = c .before .before .before .before .before .before .before .before .before .before .pre .1 .word-in; pool-in = c .before .before .before .before .before .before .before .before .before .before .pre .1 .pool-in; at-in = c .before .before .before .before .before .before .before .before .before .before .pre .1 .at-in; kept = refl }; says = laws.too-long (c .before .before .before .before .before .before .before .before .before .before .args .words .now) (c .before .before .before .before .before .before .before .before .before .before .args .pool .now) (c .before .before .before .before .before .before .before .before .before .before .args .word) (c .before .before .before .before .before .before .before .before .before .before .args .from) (c .before .before .before .before .before .before .before .before .before .before .args .at) (c .before .before .before .before .before .before .before .before .before .before .args .out .now) _ _ _ _ refl refl (c .before .before .before .if2 .taken) (omega (arith, c .before .before .run-of .ensures, c .before .if3 .taken)) })
 
--- src/lib.rt:180:13
-put-value-put-byte-requires-2 : put-value-need put-value-lts.Need-put-byte-requires-2
-put-value-put-byte-requires-2 t c κs = search needs
+-- src/lib.rt:249:60
+put-value-add-put-scalar : (t : ℕ) → put-value-lts.Need-add-put-scalar (stand-reads.Asked, stand-reads.Learnt, run-of-reads.Asked, run-of-reads.Learnt, put-scalar-reads.Asked, put-scalar-reads.Learnt, open-group-reads.Asked, open-group-reads.Learnt, count-of-reads.Asked, count-of-reads.Learnt, put-fields-below t, put-fields.Post, put-byte-reads.Asked, put-byte-reads.Learnt) (put-value-at t) put-value.Post
+put-value-add-put-scalar t c = search needs
 
--- src/lib.rt:181:9
-put-value-stand-requires-3 : put-value-need put-value-lts.Need-stand-requires-3
+-- src/lib.rt:249:13
+put-value-put-scalar-requires : (t : ℕ) → put-value-lts.Need-put-scalar-requires (stand-reads.Asked, stand-reads.Learnt, run-of-reads.Asked, run-of-reads.Learnt, put-scalar-reads.Asked, put-scalar-reads.Learnt, open-group-reads.Asked, open-group-reads.Learnt, count-of-reads.Asked, count-of-reads.Learnt, put-fields-below t, put-fields.Post, put-byte-reads.Asked, put-byte-reads.Learnt) (put-value-at t) put-value.Post
+put-value-put-scalar-requires t c κs = (omega (arith, c .before .before .before .before .before .before .before .before .before .before .pre .1 .at-in), omega arith, omega (arith, c .before .before .before .before .before .before .before .before .before .before .pre .1 .pool-in))
+
+-- src/lib.rt:250:22
+put-value-add-stand : (t : ℕ) → put-value-lts.Need-add-stand (stand-reads.Asked, stand-reads.Learnt, run-of-reads.Asked, run-of-reads.Learnt, put-scalar-reads.Asked, put-scalar-reads.Learnt, open-group-reads.Asked, open-group-reads.Learnt, count-of-reads.Asked, count-of-reads.Learnt, put-fields-below t, put-fields.Post, put-byte-reads.Asked, put-byte-reads.Learnt) (put-value-at t) put-value.Post
+put-value-add-stand t c = search needs
+
+-- src/lib.rt:250:32
+put-value-add-stand-2 : (t : ℕ) → put-value-lts.Need-add-stand-2 (stand-reads.Asked, stand-reads.Learnt, run-of-reads.Asked, run-of-reads.Learnt, put-scalar-reads.Asked, put-scalar-reads.Learnt, open-group-reads.Asked, open-group-reads.Learnt, count-of-reads.Asked, count-of-reads.Learnt, put-fields-below t, put-fields.Post, put-byte-reads.Asked, put-byte-reads.Learnt) (put-value-at t) put-value.Post
+put-value-add-stand-2 t c = search needs
+
+-- src/lib.rt:250:9
+put-value-stand-requires-3 : (t : ℕ) → put-value-lts.Need-stand-requires-3 (stand-reads.Asked, stand-reads.Learnt, run-of-reads.Asked, run-of-reads.Learnt, put-scalar-reads.Asked, put-scalar-reads.Learnt, open-group-reads.Asked, open-group-reads.Learnt, count-of-reads.Asked, count-of-reads.Learnt, put-fields-below t, put-fields.Post, put-byte-reads.Asked, put-byte-reads.Learnt) (put-value-at t) put-value.Post
 put-value-stand-requires-3 t c κs = search needs
 
--- src/lib.rt:181:9
-put-value-same-length-2 : put-value-need put-value-lts.Need-same-length-2
-put-value-same-length-2 t c = search needs
+-- src/lib.rt:250:9
+put-value-same-length : (t : ℕ) → put-value-lts.Need-same-length (stand-reads.Asked, stand-reads.Learnt, run-of-reads.Asked, run-of-reads.Learnt, put-scalar-reads.Asked, put-scalar-reads.Learnt, open-group-reads.Asked, open-group-reads.Learnt, count-of-reads.Asked, count-of-reads.Learnt, put-fields-below t, put-fields.Post, put-byte-reads.Asked, put-byte-reads.Learnt) (put-value-at t) put-value.Post
+put-value-same-length t c = c .before .before .before .put-scalar .ensures .kept
 
--- src/lib.rt:181:9
-put-value-returns-4 : put-value-need put-value-lts.Need-returns-4
-put-value-returns-4 t c = let s = c .before .before .before .before .before .before .before .before .before .before .before .before .before .before .before .before .before .before .before .before .before .before in let a = s .args in let q = s .pre .1 in let st = c .before .before .before .before .before .before .before .before .before .before .before .before .put-byte .ensures in let f = rw (c .before .before .before .before .before .before .before .before .stand2 .ensures) at (c .before .before .before .before .before .before .before .put-fields .ensures) in let en = c .before .before .before .put-byte2 .ensures in rw (c .stand3 .ensures) (record { onward = record { on = omega (arith, f .onward .on); word-in = f .onward .word-in; pool-in = f .onward .pool-in; at-in = omega (arith, en .inside, f .onward .kept, st .kept); kept = en .kept ∙ f .onward .kept ∙ st .kept }; says = laws.a-record (a .words .now) (a .pool .now) (a .s .word) (a .s .pool) (a .s .at) (a .out .now) _ _ _ _ refl refl (c .before .before .before .before .before .before .before .before .before .before .before .before .before .before .if4 .taken) _ _ _ _ _ st (f .onward .kept) (f .says) en refl refl refl })
+-- src/lib.rt:250:9
+put-value-returns-3 : (t : ℕ) → put-value-lts.Need-returns-3 (stand-reads.Asked, stand-reads.Learnt, run-of-reads.Asked, run-of-reads.Learnt, put-scalar-reads.Asked, put-scalar-reads.Learnt, open-group-reads.Asked, open-group-reads.Learnt, count-of-reads.Asked, count-of-reads.Learnt, put-fields-below t, put-fields.Post, put-byte-reads.Asked, put-byte-reads.Learnt) (put-value-at t) put-value.Post
+put-value-returns-3 t c = rw (c .stand3 .ensures) (record { onward = record { on = omega arith; word-in = omega arith; pool-in = omega (arith, c .before .before .before .before .before .before .before .before .before .before .before .before .before .before .pre .1 .pool-in, c .before .before .before .before .before .if3 .left); at-in = c .before .before .before .put-scalar .ensures .inside; kept = c .before .before .before .put-scalar .ensures .kept }; says = laws.a-plain (c .before .before .before .before .before .before .before .before .before .before .before .before .before .before .args .words .now) (c .before .before .before .before .before .before .before .before .before .before .before .before .before .before .args .pool .now) (c .before .before .before .before .before .before .before .before .before .before .before .before .before .before .args .word) (c .before .before .before .before .before .before .before .before .before .before .before .before .before .before .args .from) (c .before .before .before .before .before .before .before .before .before .before .before .before .before .before .args .at) (c .before .before .before .before .before .before .before .before .before .before .before .before .before .before .args .out .now) _ _ _ _ refl refl (c .before .before .before .before .before .before .before .if2 .taken) (c .before .before .before .before .before .before .run-of .result) (c .before .before .before .before .before .before .run-of .ensures) (c .before .before .before .put-scalar .ensures) refl refl })
 
--- src/lib.rt:183:9
-put-value-put-byte-requires-3 : put-value-need put-value-lts.Need-put-byte-requires-3
-put-value-put-byte-requires-3 t c κs = search needs
+-- src/lib.rt:252:9
+put-value-open-group-requires : (t : ℕ) → put-value-lts.Need-open-group-requires (stand-reads.Asked, stand-reads.Learnt, run-of-reads.Asked, run-of-reads.Learnt, put-scalar-reads.Asked, put-scalar-reads.Learnt, open-group-reads.Asked, open-group-reads.Learnt, count-of-reads.Asked, count-of-reads.Learnt, put-fields-below t, put-fields.Post, put-byte-reads.Asked, put-byte-reads.Learnt) (put-value-at t) put-value.Post
+put-value-open-group-requires t c κs = c .before .before .before .before .before .before .before .before .pre .1 .at-in
 
--- src/lib.rt:184:9
-put-value-put-disc-requires : put-value-need put-value-lts.Need-put-disc-requires
-put-value-put-disc-requires t c κs = search needs
+-- src/lib.rt:253:42
+put-value-add-put-fields : (t : ℕ) → put-value-lts.Need-add-put-fields (stand-reads.Asked, stand-reads.Learnt, run-of-reads.Asked, run-of-reads.Learnt, put-scalar-reads.Asked, put-scalar-reads.Learnt, open-group-reads.Asked, open-group-reads.Learnt, count-of-reads.Asked, count-of-reads.Learnt, put-fields-below t, put-fields.Post, put-byte-reads.Asked, put-byte-reads.Learnt) (put-value-at t) put-value.Post
+put-value-add-put-fields t c = search needs
 
--- src/lib.rt:185:47
-put-value-add-stand-4 : put-value-need put-value-lts.Need-add-stand-4
-put-value-add-stand-4 t c = search needs
+-- src/lib.rt:253:65
+put-value-count-of-requires : (t : ℕ) → put-value-lts.Need-count-of-requires (stand-reads.Asked, stand-reads.Learnt, run-of-reads.Asked, run-of-reads.Learnt, put-scalar-reads.Asked, put-scalar-reads.Learnt, open-group-reads.Asked, open-group-reads.Learnt, count-of-reads.Asked, count-of-reads.Learnt, put-fields-below t, put-fields.Post, put-byte-reads.Asked, put-byte-reads.Learnt) (put-value-at t) put-value.Post
+put-value-count-of-requires t c κs = search needs
 
--- src/lib.rt:185:41
-put-value-stand-requires-4 : put-value-need put-value-lts.Need-stand-requires-4
+-- src/lib.rt:253:9
+put-value-put-fields-requires : (t : ℕ) → put-value-lts.Need-put-fields-requires (stand-reads.Asked, stand-reads.Learnt, run-of-reads.Asked, run-of-reads.Learnt, put-scalar-reads.Asked, put-scalar-reads.Learnt, open-group-reads.Asked, open-group-reads.Learnt, count-of-reads.Asked, count-of-reads.Learnt, put-fields-below t, put-fields.Post, put-byte-reads.Asked, put-byte-reads.Learnt) (put-value-at t) put-value.Post
+put-value-put-fields-requires t c κs = (omega (arith, c .before .before .before .before .before .before .before .before .before .before .before .before .before .pre .0), record { word-in = omega arith; pool-in = c .before .before .before .before .before .before .before .before .before .before .before .before .before .pre .1 .pool-in; at-in = omega (arith, c .before .before .before .before .open-group .ensures .inside, c .before .before .before .before .open-group .ensures .kept) })
+
+-- src/lib.rt:254:9
+put-value-put-byte-requires : (t : ℕ) → put-value-lts.Need-put-byte-requires (stand-reads.Asked, stand-reads.Learnt, run-of-reads.Asked, run-of-reads.Learnt, put-scalar-reads.Asked, put-scalar-reads.Learnt, open-group-reads.Asked, open-group-reads.Learnt, count-of-reads.Asked, count-of-reads.Learnt, put-fields-below t, put-fields.Post, put-byte-reads.Asked, put-byte-reads.Learnt) (put-value-at t) put-value.Post
+put-value-put-byte-requires t c κs = omega (arith, c .before .before .before .put-fields .ensures .onward .at-in, c .before .before .before .put-fields .ensures .onward .kept)
+
+-- src/lib.rt:255:5
+put-value-stand-requires-4 : (t : ℕ) → put-value-lts.Need-stand-requires-4 (stand-reads.Asked, stand-reads.Learnt, run-of-reads.Asked, run-of-reads.Learnt, put-scalar-reads.Asked, put-scalar-reads.Learnt, open-group-reads.Asked, open-group-reads.Learnt, count-of-reads.Asked, count-of-reads.Learnt, put-fields-below t, put-fields.Post, put-byte-reads.Asked, put-byte-reads.Learnt) (put-value-at t) put-value.Post
 put-value-stand-requires-4 t c κs = search needs
 
--- src/lib.rt:185:9
-put-value-put-value-requires : put-value-need put-value-lts.Need-put-value-requires
-put-value-put-value-requires t c κs = let s = c .before .before .before .before .before .before .before .before .before .before .before .before .before .before .before .before .before .before in let a = s .args in let q = s .pre .1 in let st = c .before .before .before .before .before .before .before .before .put-byte3 .ensures in let tg = c .before .before .before .before .put-disc .ensures in rw (c .stand4 .ensures) (omega (arith, s .pre .0, c .before .before .before .before .before .before .before .before .before .before .before .before .before .before .if1 .left, q .word-in), record { word-in = omega (arith, c .before .before .before .before .before .before .before .before .before .before .before .before .before .before .if1 .left, q .word-in); pool-in = q .pool-in; at-in = omega (arith, tg .inside, tg .kept) })
+-- src/lib.rt:228:1
+put-value-same-length-2 : (t : ℕ) → put-value-lts.Need-same-length-2 (stand-reads.Asked, stand-reads.Learnt, run-of-reads.Asked, run-of-reads.Learnt, put-scalar-reads.Asked, put-scalar-reads.Learnt, open-group-reads.Asked, open-group-reads.Learnt, count-of-reads.Asked, count-of-reads.Learnt, put-fields-below t, put-fields.Post, put-byte-reads.Asked, put-byte-reads.Learnt) (put-value-at t) put-value.Post
+put-value-same-length-2 t c = c .before .before .before .put-byte .ensures .kept ∙ c .before .before .before .before .before .before .before .put-fields .ensures .onward .kept ∙ c .before .before .before .before .before .before .before .before .before .before .before .before .open-group .ensures .kept
 
--- src/lib.rt:186:9
-put-value-put-byte-requires-4 : put-value-need put-value-lts.Need-put-byte-requires-4
-put-value-put-byte-requires-4 t c κs = search needs
-
--- src/lib.rt:187:5
-put-value-stand-requires-5 : put-value-need put-value-lts.Need-stand-requires-5
-put-value-stand-requires-5 t c κs = search needs
-
--- src/lib.rt:158:1
-put-value-same-length-3 : put-value-need put-value-lts.Need-same-length-3
-put-value-same-length-3 t c = search needs
-
--- src/lib.rt:158:1
-put-value-returns-5 : put-value-need put-value-lts.Need-returns-5
-put-value-returns-5 t c = let s = c .before .before .before .before .before .before .before .before .before .before .before .before .before .before .before .before .before .before .before .before .before .before .before .before .before .before in let a = s .args in let q = s .pre .1 in let st = c .before .before .before .before .before .before .before .before .before .before .before .before .before .before .before .before .put-byte3 .ensures in let tg = c .before .before .before .before .before .before .before .before .before .before .before .before .put-disc .ensures in let v = rw (c .before .before .before .before .before .before .before .before .stand4 .ensures) at (c .before .before .before .before .before .before .before .put-value .ensures) in let en = c .before .before .before .put-byte4 .ensures in rw (c .stand5 .ensures) (record { onward = record { on = omega (arith, v .onward .on); word-in = v .onward .word-in; pool-in = v .onward .pool-in; at-in = omega (arith, en .inside, v .onward .kept, tg .kept, st .kept); kept = en .kept ∙ v .onward .kept ∙ tg .kept ∙ st .kept }; says = laws.a-union (a .words .now) (a .pool .now) (a .s .word) (a .s .pool) (a .s .at) (a .out .now) _ _ _ _ refl refl (c .before .before .before .before .before .before .before .before .before .before .before .before .before .before .before .before .before .before .before .if2 .left) (c .before .before .before .before .before .before .before .before .before .before .before .before .before .before .before .before .before .before .if4 .left) _ _ _ _ _ _ _ st tg (v .onward .kept) (v .says) en refl refl refl })
+-- src/lib.rt:228:1
+put-value-returns-4 : (t : ℕ) → put-value-lts.Need-returns-4 (stand-reads.Asked, stand-reads.Learnt, run-of-reads.Asked, run-of-reads.Learnt, put-scalar-reads.Asked, put-scalar-reads.Learnt, open-group-reads.Asked, open-group-reads.Learnt, count-of-reads.Asked, count-of-reads.Learnt, put-fields-below t, put-fields.Post, put-byte-reads.Asked, put-byte-reads.Learnt) (put-value-at t) put-value.Post
+put-value-returns-4 t c = rw (c .stand4 .ensures) (record { onward = record { on = omega (arith, c .before .before .before .before .before .before .before .put-fields .ensures .onward .on); word-in = c .before .before .before .before .before .before .before .put-fields .ensures .onward .word-in; pool-in = c .before .before .before .before .before .before .before .put-fields .ensures .onward .pool-in; at-in = omega (arith, c .before .before .before .put-byte .ensures .inside, c .before .before .before .before .before .before .before .put-fields .ensures .onward .kept, c .before .before .before .before .before .before .before .before .before .before .before .before .open-group .ensures .kept); kept = c .before .before .before .put-byte .ensures .kept ∙ c .before .before .before .before .before .before .before .put-fields .ensures .onward .kept ∙ c .before .before .before .before .before .before .before .before .before .before .before .before .open-group .ensures .kept }; says = laws.a-group (c .before .before .before .before .before .before .before .before .before .before .before .before .before .before .before .before .before .before .before .before .before .args .words .now) (c .before .before .before .before .before .before .before .before .before .before .before .before .before .before .before .before .before .before .before .before .before .args .pool .now) (c .before .before .before .before .before .before .before .before .before .before .before .before .before .before .before .before .before .before .before .before .before .args .word) (c .before .before .before .before .before .before .before .before .before .before .before .before .before .before .before .before .before .before .before .before .before .args .from) (c .before .before .before .before .before .before .before .before .before .before .before .before .before .before .before .before .before .before .before .before .before .args .at) (c .before .before .before .before .before .before .before .before .before .before .before .before .before .before .before .before .before .before .before .before .before .args .out .now) _ _ _ _ refl refl (omega (arith, c .before .before .before .before .before .before .before .before .before .before .before .before .before .before .if2 .left)) (c .before .before .before .before .before .before .before .before .before .before .before .before .open-group .result) (c .before .before .before .put-byte .result) _ _ (c .before .before .before .before .before .before .before .put-fields .result) (c .before .before .before .before .before .before .before .before .before .before .before .before .open-group .ensures) (c .before .before .before .before .before .before .before .put-fields .ensures .onward .kept) (rw (c .before .before .before .before .before .before .before .before .count-of .ensures) at (c .before .before .before .before .before .before .before .put-fields .ensures .says)) (c .before .before .before .put-byte .ensures) refl refl refl })
 
 pub +put-fields+put-value-spec : {M : Type 1} → statement M
-+put-fields+put-value-spec = close μ-put-fields μ-put-value (λ t. put-fields-lts.spec (put-fields-claims t)
++put-fields+put-value-spec = close μ-put-fields μ-put-value (λ t. put-fields-lts.spec (put-plain-reads.Asked, put-plain-reads.Learnt, put-ends-reads.Asked, put-ends-reads.Learnt, stand-reads.Asked, stand-reads.Learnt, last-group-reads.Asked, last-group-reads.Learnt, open-group-reads.Asked, open-group-reads.Learnt, count-of-reads.Asked, count-of-reads.Learnt, put-value-below t, put-value.Post)
     (put-fields-at t)
     put-fields.Post
     put-fields-Inv-loop
     put-fields-μ-loop
     (put-fields-loop-holds t)
     (put-fields-put-plain-requires t)
+    (put-fields-put-ends-requires t)
+    (put-fields-stand-requires t)
     (put-fields-same-length t)
     (put-fields-returns t)
-    (put-fields-put-value-requires t)
-    (put-fields-sub-stand t)
-    (put-fields-stand-requires t)
+    (put-fields-last-group-requires t)
+    (put-fields-mul-open-group t)
+    (put-fields-shared-slice-read-open-group t)
+    (put-fields-add-open-group t)
+    (put-fields-mul-open-group-2 t)
+    (put-fields-shared-slice-read-open-group-2 t)
+    (put-fields-open-group-requires t)
+    (put-fields-mul-count-of t)
+    (put-fields-shared-slice-read-count-of t)
+    (put-fields-add-count-of t)
+    (put-fields-mul-count-of-2 t)
+    (put-fields-shared-slice-read-count-of-2 t)
+    (put-fields-count-of-requires t)
+    (put-fields-add-w t)
+    (put-fields-add-ends t)
     (put-fields-loop-less t)
-    (put-fields-loop-again t))
-    λ t. put-value-lts.spec (put-value-claims t)
+    (put-fields-loop-again t)
+    (put-fields-put-value-requires t)
+    (put-fields-sub-left t)
+    (put-fields-loop-less-2 t)
+    (put-fields-loop-again-2 t))
+    λ t. put-value-lts.spec (
+      stand-reads.Asked,
+      stand-reads.Learnt,
+      run-of-reads.Asked,
+      run-of-reads.Learnt,
+      put-scalar-reads.Asked,
+      put-scalar-reads.Learnt,
+      open-group-reads.Asked,
+      open-group-reads.Learnt,
+      count-of-reads.Asked,
+      count-of-reads.Learnt,
+      put-fields-below t,
+      put-fields.Post,
+      put-byte-reads.Asked,
+      put-byte-reads.Learnt,
+    )
     (put-value-at t)
     put-value.Post
     (put-value-sub-if1 t)
+    (put-value-stand-requires t)
     (put-value-returns t)
     (put-value-mul-kind t)
     (put-value-shared-slice-read-kind t)
@@ -260,28 +379,20 @@ pub +put-fields+put-value-spec : {M : Type 1} → statement M
     (put-value-shared-slice-read-x t)
     (put-value-run-of-requires t)
     (put-value-sub-if3 t)
+    (put-value-stand-requires-2 t)
     (put-value-returns-2 t)
     (put-value-add-put-scalar t)
     (put-value-put-scalar-requires t)
     (put-value-add-stand t)
     (put-value-add-stand-2 t)
-    (put-value-stand-requires t)
+    (put-value-stand-requires-3 t)
     (put-value-same-length t)
     (put-value-returns-3 t)
-    (put-value-put-byte-requires t)
-    (put-value-add-stand-3 t)
-    (put-value-stand-requires-2 t)
+    (put-value-open-group-requires t)
+    (put-value-add-put-fields t)
+    (put-value-count-of-requires t)
     (put-value-put-fields-requires t)
-    (put-value-put-byte-requires-2 t)
-    (put-value-stand-requires-3 t)
+    (put-value-put-byte-requires t)
+    (put-value-stand-requires-4 t)
     (put-value-same-length-2 t)
     (put-value-returns-4 t)
-    (put-value-put-byte-requires-3 t)
-    (put-value-put-disc-requires t)
-    (put-value-add-stand-4 t)
-    (put-value-stand-requires-4 t)
-    (put-value-put-value-requires t)
-    (put-value-put-byte-requires-4 t)
-    (put-value-stand-requires-5 t)
-    (put-value-same-length-3 t)
-    (put-value-returns-5 t)
