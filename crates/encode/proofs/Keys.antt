@@ -40,10 +40,10 @@ accepted (refused n d) z x e = clash e
 
 -- ---- a whole value
 
-pub whole-measure : (ty words pool : List ℕ) (r : Fit) → fit.One ty words pool 0 0 0 0 0 r → (t : Ty) (v : Val) → types.Admitted ty t → values.Admitted words pool v → Measures (encodeTyped t v) r
+pub whole-measure : (ty words pool : List ℕ) (r : Fit) → fit.One ty words pool 0 (length ty) 0 0 0 0 r → (t : Ty) (v : Val) → types.Admitted ty t → values.Admitted words pool v → Measures (encodeTyped t v) r
 unfolding encode
 whole-measure ty words pool r one t v a b =
-    measures (fits t 0 v) _ _ _ _ r (valBytes 0 v) (omega arith) (one .one t v _ _ _ (type-places.top ty t a) (a .deep) (value-places.top words pool v b))
+    measures (fits t 0 v) _ _ _ _ r (valBytes 0 v) (omega arith) (one .one t v _ _ _ (type-places.top ty t a) (λ z. refl) (a .deep) (value-places.top words pool v b))
 
 pub whole-write : (words pool l : List ℕ) (r : Put) (l′ : List ℕ) → write.One words pool 0 0 0 l r l′ → (t : Ty) (v : Val) (bs : List ℕ) → values.Admitted words pool v → encodeTyped t v ≡ ok bs → length bs ≤ length l → l′ ≡ put l 0 bs
 unfolding encode
@@ -94,7 +94,7 @@ module _ (ty words pool : List ℕ) where
   pub whole-kind : (getD ty 0 0 ≡ 5 → ⊥) → Whole
   whole-kind h t a e = h (kind-of t a ∙ e)
 
-  pub key-whole : (r : Fit) → Whole → fit.One ty words pool 0 0 0 0 0 r → FitKey ty words pool r
+  pub key-whole : (r : Fit) → Whole → fit.One ty words pool 0 (length ty) 0 0 0 0 r → FitKey ty words pool r
   key-whole r h one = record { says = λ t v a b. rw (← whole-key t v (h t a)) (whole-measure ty words pool r one t v a b) }
 
   pub put-whole : (l : List ℕ) (r : Put) (l′ : List ℕ) → Whole → write.One words pool 0 0 0 l r l′ → PutKey ty words pool l l′
@@ -128,7 +128,7 @@ module _ (ty words pool : List ℕ) where
         key-count r h i j = both r (λ ts vs a b.
             rw (ne-eqb (fieldCount ts) (valCount vs) (λ z. h (fields-at vs b .count ∙ sym z ∙ sym (record-at ts a .count) ∙ sym kn))) (record { number = i; detail = j; some = omega arith }))
 
-        pub key-fields : (r : Fit) → getD words 1 0 ≡ n → fit.Row ty words pool 0 n 2 2 0 0 r → FitKey ty words pool r
+        pub key-fields : (r : Fit) → getD words 1 0 ≡ n → fit.Row ty words pool 0 (length ty) n 2 2 0 0 r → FitKey ty words pool r
         unfolding keyBytes types.nesting
         key-fields r h row = both r (λ ts vs a b.
             let c = record-at ts a in
@@ -136,7 +136,7 @@ module _ (ty words pool : List ℕ) where
             let i : n ≡ fieldCount ts = kn ∙ c .count in
             let j : n ≡ valCount vs = sym h ∙ d .count in
             rw (eq-eqb (fieldCount ts) (valCount vs) (sym i ∙ j))
-            (measures (fitsAll ts 0 vs) _ _ _ _ r (valsBytes 0 vs) (omega arith) (row .row ts vs _ _ _ i j (c .fields) (omega (arith, a .deep)) (d .fields))))
+            (measures (fitsAll ts 0 vs) _ _ _ _ r (valsBytes 0 vs) (omega arith) (row .row ts vs _ _ _ i j (c .fields) (λ z. refl) (omega (arith, a .deep)) (d .fields))))
 
     -- what an accepted key says of its value
     parts : (ts : Tys) (v : Val) (bs : List ℕ) → keyBytes (Ty.Record ts) v ≡ ok bs → (valKind v ≡ 5) × (fitsAll ts 0 (fieldsIn v) ≡ fine) × (valsBytes 0 (fieldsIn v) ≡ bs)

@@ -108,7 +108,7 @@ module _ (ty words pool out : List ℕ) where
   unfolding encodeTypedCall
   typed-value g h = bad-value ty words pool out encodeTyped g h
 
-  module _ (s : Sheets ty words pool) (r : Fit) (one : fit.One ty words pool 0 0 0 0 0 r) where
+  module _ (s : Sheets ty words pool) (r : Fit) (one : fit.One ty words pool 0 (length ty) 0 0 0 0 r) where
     typed-says : Measures (encodeTyped (s .t) (s .v)) r
     typed-says = whole-measure ty words pool r one (s .t) (s .v) (s .admits-type) (s .admits-value)
 

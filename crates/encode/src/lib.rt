@@ -23,7 +23,7 @@ pub fn encode_typed(ty: &[u32], words: &[u64], pool: &[u8], out: &mut [u8]) -> E
     if !sheet::admit_value(words, pool) {
         return Encoded::Refused(format::BAD_VALUE, 0);
     }
-    let r = fit::fit_value(ty, words, pool, fit::stand(0, 0, 0, 0, 0), 0);
+    let r = fit::fit_value(ty, words, pool, fit::stand(0, 0, 0, 0, 0), 0, ty.len());
     let no = r.no;
     if no != 0 {
         return Encoded::Refused(no, r.detail);
@@ -43,10 +43,10 @@ pub fn fit_key(ty: &[u32], words: &[u64], pool: &[u8]) -> Fit
 {
     let start = fit::stand(0, 0, 0, 0, 0);
     if ty.len() < 2 {
-        return fit::fit_value(ty, words, pool, start, 0);
+        return fit::fit_value(ty, words, pool, start, 0, ty.len());
     }
     if ty[0] != format::KIND_RECORD {
-        return fit::fit_value(ty, words, pool, start, 0);
+        return fit::fit_value(ty, words, pool, start, 0, ty.len());
     }
     if words.len() < 2 {
         return fit::refuse(start, format::TYPE_MISMATCH, 5);
@@ -58,7 +58,7 @@ pub fn fit_key(ty: &[u32], words: &[u64], pool: &[u8]) -> Fit
     if words[1] != count as u64 {
         return fit::refuse(start, format::BAD_RECORD, 0);
     }
-    fit::fit_fields(ty, words, pool, fit::stand(2, 2, 0, 0, count), 0)
+    fit::fit_fields(ty, words, pool, fit::stand(2, 2, 0, 0, count), 0, ty.len())
 }
 
 // Writes a key that was measured and fits into the buffer.

@@ -59,14 +59,22 @@ abbrev pub Gives : Answer Unit → (n e f g : ℕ) → Fit → Type 0
 Gives (ok u) n e f g r = Good n e f g r
 Gives (refused m d) n e f g r = Bad m d r
 
+-- where the end is known, it is e; 0 stands for an unknown end
+abbrev pub Known : (end e : ℕ) → Type 0
+Known end e = (end ≡ 0 → ⊥) → e ≡ end
+
+-- what is known of the end of a part, with `behind` of the row's parts behind it
+pub record Handed (end behind r : ℕ) : Type 0 where
+  pub handed : (r ≡ 0 → ⊥) → (r ≡ end) × (behind ≡ 0)
+
 -- whatever type and value stand at the places, r says whether the value fits, and its length added to len
-pub record One (ty words pool : List ℕ) (depth t w p len : ℕ) (r : Fit) : Type 0 where
-  pub one : (T : Ty) (v : Val) (e f g : ℕ) → TypeIn ty t T e → nesting T ≤ maxGroups → ValueIn words pool w p v f g
+pub record One (ty words pool : List ℕ) (depth end t w p len : ℕ) (r : Fit) : Type 0 where
+  pub one : (T : Ty) (v : Val) (e f g : ℕ) → TypeIn ty t T e → Known end e → nesting T ≤ maxGroups → ValueIn words pool w p v f g
       → Gives (fits T depth v) (len + length (valBytes depth v)) e f g r
 
 -- and whatever n types and n values in a row
-pub record Row (ty words pool : List ℕ) (depth n t w p len : ℕ) (r : Fit) : Type 0 where
-  pub row : (ts : Tys) (vs : Vals) (e f g : ℕ) → n ≡ fieldCount ts → n ≡ valCount vs → TypesIn ty t ts e → nestings ts ≤ maxGroups → ValuesIn words pool w p vs f g
+pub record Row (ty words pool : List ℕ) (depth end n t w p len : ℕ) (r : Fit) : Type 0 where
+  pub row : (ts : Tys) (vs : Vals) (e f g : ℕ) → n ≡ fieldCount ts → n ≡ valCount vs → TypesIn ty t ts e → Known end e → nestings ts ≤ maxGroups → ValuesIn words pool w p vs f g
       → Gives (fitsAll ts depth vs) (len + length (valsBytes depth vs)) e f g r
 
 -- ---- what each walk promises
@@ -76,7 +84,7 @@ pub record Passed (ty words pool : List ℕ) (s r : Fit) : Type 0 where
   pub onward : Onward words pool (s .word) r
   pub none : r .no ≡ 0
   pub fewer : r .left ≤ s .left
-  pub so-far : (depth : ℕ) (e : Fit) → Row ty words pool depth (r .left) (r .ty) (r .word) (r .pool) (r .len) e → Row ty words pool depth (s .left) (s .ty) (s .word) (s .pool) (s .len) e
+  pub so-far : (depth end : ℕ) (e : Fit) → Row ty words pool depth end (r .left) (r .ty) (r .word) (r .pool) (r .len) e → Row ty words pool depth end (s .left) (s .ty) (s .word) (s .pool) (s .len) e
 
 -- the refusal of a reference by its number, 0 for none
 pub record RefSays (predicate raw n : ℕ) : Type 0 where
@@ -87,19 +95,19 @@ pub record RefSays (predicate raw n : ℕ) : Type 0 where
 -- a value that is no group, of its type's kind k and with the second word x
 pub record FitScalar (ty words pool : List ℕ) (s : Fit) (k x : ℕ) (r : Fit) : Type 0 where
   pub onward : Onward words pool (s .word) r
-  pub says : k ≡ getD ty (s .ty) 0 → getD words (s .word) 0 ≡ k → x ≡ getD words (s .word + 1) 0 → k < 5 → (depth : ℕ) → One ty words pool depth (s .ty) (s .word) (s .pool) (s .len) r
+  pub says : k ≡ getD ty (s .ty) 0 → getD words (s .word) 0 ≡ k → x ≡ getD words (s .word + 1) 0 → k < 5 → (depth end : ℕ) → One ty words pool depth end (s .ty) (s .word) (s .pool) (s .len) r
 
 -- what a union makes of its payload's answer, with `left` alternatives behind the payload's type
-pub record Closed (ty : List ℕ) (tag left : ℕ) (s r : Fit) : Type 0 where
+pub record Closed (ty : List ℕ) (tag left end : ℕ) (s r : Fit) : Type 0 where
   pub word : r .word ≡ s .word
   pub pool : r .pool ≡ s .pool
   pub len : r .len ≡ s .len
-  pub says : (a : Answer Unit) (n m f g : ℕ) (us : Alts) (e : ℕ) → Gives a n m f g s → AltsIn ty m us e → altCount us ≡ left → altNestings us ≤ maxGroups → Gives (inUnion tag a) n e f g r
+  pub says : (a : Answer Unit) (n m f g : ℕ) (us : Alts) (e : ℕ) → Gives a n m f g s → AltsIn ty m us e → Known end e → altCount us ≡ left → altNestings us ≤ maxGroups → Gives (inUnion tag a) n e f g r
 
-pub record FitValue (ty words pool : List ℕ) (s : Fit) (depth : ℕ) (r : Fit) : Type 0 where
+pub record FitValue (ty words pool : List ℕ) (s : Fit) (depth end : ℕ) (r : Fit) : Type 0 where
   pub onward : Onward words pool (s .word) r
-  pub says : One ty words pool depth (s .ty) (s .word) (s .pool) (s .len) r
+  pub says : One ty words pool depth end (s .ty) (s .word) (s .pool) (s .len) r
 
-pub record FitFields (ty words pool : List ℕ) (s : Fit) (depth : ℕ) (r : Fit) : Type 0 where
+pub record FitFields (ty words pool : List ℕ) (s : Fit) (depth end : ℕ) (r : Fit) : Type 0 where
   pub onward : Onward words pool (s .word) r
-  pub says : Row ty words pool depth (s .left) (s .ty) (s .word) (s .pool) (s .len) r
+  pub says : Row ty words pool depth end (s .left) (s .ty) (s .word) (s .pool) (s .len) r

@@ -5,7 +5,7 @@ ghost use lib.ListN.{length, getD};
 ghost use lib.Seq.{slice};
 ghost use Rattle.format.specs.ValueSheet.{maxValueWords};
 ghost use Rattle.format.proofs.PlainLaws.{plainPool, plainBytes};
-ghost use Rattle.fit.specs.Fit.{Ready, standing, refusing, Passed, RefSays, FitScalar, Closed, FitValue, FitFields};
+ghost use Rattle.fit.specs.Fit.{Ready, standing, refusing, Passed, RefSays, FitScalar, Handed, Closed, FitValue, FitFields};
 
 // How many sequences a predicate has: the low 32 bits of a reference are the sequence, the others the predicate.
 const SEQUENCES: u64 = 0x1_0000_0000;
@@ -183,12 +183,22 @@ fn fit_scalar(ty: &[u32], words: &[u64], pool: &[u8], s: Fit, kind: u32, x: u64)
     stand(t + 1, w + 2, p + n, s.len + more, 0)
 }
 
-// What a union makes of its payload's answer: the end of its alternatives; or the refusal, BadRecord and TypeMismatch as BadUnion with the tag.
-fn close_union(ty: &[u32], s: Fit, tag: u64, left: u32) -> Fit
-    ensures { λ r. ⌜ Closed (now (ty .entry)) tag left s r ⌝ }
+// The end of a part of a row that ends at `end`: the row's where nothing is behind it, 0 for unknown where something is.
+fn handed(end: usize, behind: u32) -> usize
+    ensures { λ r. ⌜ Handed end behind r ⌝ }
+{
+    if behind == 0 { end } else { 0 }
+}
+
+// What a union makes of its payload's answer: the end of its alternatives, `known` where that is not 0; or the refusal, BadRecord and TypeMismatch as BadUnion with the tag.
+fn close_union(ty: &[u32], s: Fit, tag: u64, left: u32, known: usize) -> Fit
+    ensures { λ r. ⌜ Closed (now (ty .entry)) tag left known s r ⌝ }
 {
     let no = s.no;
     if no == 0 {
+        if known != 0 {
+            return stand(known, s.word, s.pool, s.len, 0);
+        }
         let end = sheet::skip_alternatives(ty, s.ty, left);
         return stand(end, s.word, s.pool, s.len, 0);
     }
@@ -201,10 +211,10 @@ fn close_union(ty: &[u32], s: Fit, tag: u64, left: u32) -> Fit
     s
 }
 
-// A value under its type.
-pub fn fit_value(ty: &[u32], words: &[u64], pool: &[u8], s: Fit, depth: u32) -> Fit
+// A value under its type, which ends at `end`, or somewhere where that is 0.
+pub fn fit_value(ty: &[u32], words: &[u64], pool: &[u8], s: Fit, depth: u32, end: usize) -> Fit
     requires { ⌜ Ready (now words) (now pool) s ⌝ }
-    ensures { λ r. ⌜ FitValue (now (ty .entry)) (now (words .entry)) (now (pool .entry)) s depth r ⌝ }
+    ensures { λ r. ⌜ FitValue (now (ty .entry)) (now (words .entry)) (now (pool .entry)) s depth end r ⌝ }
 {
     let t = s.ty;
     let w = s.word;
@@ -234,7 +244,7 @@ pub fn fit_value(ty: &[u32], words: &[u64], pool: &[u8], s: Fit, depth: u32) -> 
             return refuse(s, format::BAD_RECORD, 0);
         }
         let fields = stand(t + 2, w + 2, s.pool, s.len + 2, count);
-        return fit_fields(ty, words, pool, fields, depth + 1);
+        return fit_fields(ty, words, pool, fields, depth + 1, end);
     }
     let choice = sheet::alternative(ty, t, x);
     let place = choice.place;
@@ -246,14 +256,15 @@ pub fn fit_value(ty: &[u32], words: &[u64], pool: &[u8], s: Fit, depth: u32) -> 
     }
     let len = s.len + 2 + scalar::ints::uint_len(x);
     let inner = stand(place, w + 2, s.pool, len, 0);
-    let r = fit_value(ty, words, pool, inner, depth + 1);
-    close_union(ty, r, x, choice.left)
+    let left = choice.left;
+    let r = fit_value(ty, words, pool, inner, depth + 1, handed(end, left));
+    close_union(ty, r, x, left, end)
 }
 
-// The fields of a record.
-pub fn fit_fields(ty: &[u32], words: &[u64], pool: &[u8], s: Fit, depth: u32) -> Fit
+// The fields of a record, whose types end at `end`, or somewhere where that is 0.
+pub fn fit_fields(ty: &[u32], words: &[u64], pool: &[u8], s: Fit, depth: u32, end: usize) -> Fit
     requires { ⌜ Ready (now words) (now pool) s ⌝ }
-    ensures { λ r. ⌜ FitFields (now (ty .entry)) (now (words .entry)) (now (pool .entry)) s depth r ⌝ }
+    ensures { λ r. ⌜ FitFields (now (ty .entry)) (now (words .entry)) (now (pool .entry)) s depth end r ⌝ }
 {
     let mut here = s;
     loop {
@@ -262,7 +273,7 @@ pub fn fit_fields(ty: &[u32], words: &[u64], pool: &[u8], s: Fit, depth: u32) ->
         if left == 0 {
             return r;
         }
-        let g = fit_value(ty, words, pool, r, depth);
+        let g = fit_value(ty, words, pool, r, depth, handed(end, left - 1));
         if g.no != 0 {
             return g;
         }

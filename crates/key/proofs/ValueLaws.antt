@@ -40,7 +40,7 @@ module _ (ty : List ℕ) (at : ℕ) (buffer : List ℕ) (used start end : ℕ) (
   pub v-bad : isSome (valueOf words pool) ≡ false → ValueStands ty at buffer used start end words pool (replacing.Refused BadValue 0) buffer
   v-bad h = record { stands = λ t e i d. rw (no-value words pool h) (record { answer = refl; left = refl }) }
 
-  module _ (adm : isSome (valueOf words pool) ≡ true) (r : Fit) (f : One ty words pool 0 at 0 0 0 r) where
+  module _ (adm : isSome (valueOf words pool) ≡ true) (r : Fit) (f : One ty words pool 0 0 at 0 0 0 r) where
     -- the value, and what the walk says of it under a type
     abbrev the-value : Val
     the-value = values.its-tree words pool adm .0
@@ -55,7 +55,7 @@ module _ (ty : List ℕ) (at : ℕ) (buffer : List ℕ) (used start end : ℕ) (
     Says t e = Gives (fits t 0 the-value) (0 + length (valBytes 0 the-value)) e (length words) (length pool) r
 
     says : (t : Ty) (e : ℕ) → TypeIn ty at t e → nesting t ≤ maxGroups → Says t e
-    says t e i d = f .one t the-value e (length words) (length pool) i d it-stands
+    says t e i d = f .one t the-value e (length words) (length pool) i (λ z. absurd (z refl)) d it-stands
 
     -- the call with the value's encoding
     abbrev Call : Ty → Called ℕ

@@ -45,7 +45,7 @@ fn put_field(
     if !sheet::admit_value(words, pool) {
         return Replaced::Refused(format::BAD_VALUE, 0);
     }
-    let r = fit::fit_value(ty, words, pool, fit::stand(at, 0, 0, 0, 0), 0);
+    let r = fit::fit_value(ty, words, pool, fit::stand(at, 0, 0, 0, 0), 0, 0);
     let no = r.no;
     if no != 0 {
         return Replaced::Refused(no, r.detail);

@@ -133,7 +133,7 @@ loop-less c = search needs
 
 -- src/lib.rt:117:5
 loop-again : tie.Need-loop-again Inv-loop μ-loop
-loop-again c = let l = c .before .before .before .before .before .before .before .before .before .before .before .before .loop in let a = c .before .before .before .before .before .before .before .before .before .before .before .before .before .before .before .before .args in let i = l .inv in record { on = omega (arith, i .on); word-in = omega (arith, i .word-in, c .before .before .before .before .before .before .before .before .before .if2 .left); fewer = omega (arith, i .fewer); pool-in = omega (arith, i .pool-in, c .before .if5 .left); brief = omega (arith, i .brief, c .plain-len .ensures .1); so-far = λ depth e h. i .so-far depth e (laws.plain-step (a .ty .now) (a .words .now) (a .pool .now) depth (l .left) (l .t) (l .w) (l .p) (l .len) (c .before .before .before .before .before .before .before .before .before .before .before .loop-test .taken) _ _ refl (c .before .before .before .before .before .if3 .left ∙ c .before .before .before .before .before .before .wide .ensures) refl (c .before .before .before .if4 .taken) _ (c .before .before .run-of .ensures) _ (c .plain-len .ensures .0) e h) }
+loop-again c = let l = c .before .before .before .before .before .before .before .before .before .before .before .before .loop in let a = c .before .before .before .before .before .before .before .before .before .before .before .before .before .before .before .before .args in let i = l .inv in record { on = omega (arith, i .on); word-in = omega (arith, i .word-in, c .before .before .before .before .before .before .before .before .before .if2 .left); fewer = omega (arith, i .fewer); pool-in = omega (arith, i .pool-in, c .before .if5 .left); brief = omega (arith, i .brief, c .plain-len .ensures .1); so-far = λ depth end e h. i .so-far depth end e (laws.plain-step (a .ty .now) (a .words .now) (a .pool .now) depth end (l .left) (l .t) (l .w) (l .p) (l .len) (c .before .before .before .before .before .before .before .before .before .before .before .loop-test .taken) _ _ refl (c .before .before .before .before .before .if3 .left ∙ c .before .before .before .before .before .before .wide .ensures) refl (c .before .before .before .if4 .taken) _ (c .before .before .run-of .ensures) _ (c .plain-len .ensures .0) e h) }
 
 -- src/lib.rt:140:16
 sub-if7 : tie.Need-sub-if7 Inv-loop μ-loop
@@ -193,7 +193,7 @@ loop-less-2 c = search needs
 
 -- src/lib.rt:117:5
 loop-again-2 : tie.Need-loop-again-2 Inv-loop μ-loop
-loop-again-2 c = let l = c .before .before .before .before .before .before .before .before .before .before .before .before .before .before .loop in let a = c .before .before .before .before .before .before .before .before .before .before .before .before .before .before .before .before .before .before .args in let i = l .inv in record { on = omega (arith, i .on); word-in = omega (arith, i .word-in, c .before .before .before .before .before .before .before .before .before .before .before .if2 .left); fewer = omega (arith, i .fewer); pool-in = i .pool-in; brief = omega (arith, i .brief); so-far = λ depth e h. i .so-far depth e (laws.ref-step (a .ty .now) (a .words .now) (a .pool .now) depth (l .left) (l .t) (l .w) (l .p) (l .len) (c .before .before .before .before .before .before .before .before .before .before .before .before .before .loop-test .taken) _ _ refl (c .before .before .before .before .before .before .before .if3 .left ∙ c .before .before .before .before .before .before .before .before .wide .ensures) refl (c .before .before .before .before .if6 .taken) _ _ refl (c .before .ref-refusal .ensures) (c .if8 .left) e h) }
+loop-again-2 c = let l = c .before .before .before .before .before .before .before .before .before .before .before .before .before .before .loop in let a = c .before .before .before .before .before .before .before .before .before .before .before .before .before .before .before .before .before .before .args in let i = l .inv in record { on = omega (arith, i .on); word-in = omega (arith, i .word-in, c .before .before .before .before .before .before .before .before .before .before .before .if2 .left); fewer = omega (arith, i .fewer); pool-in = i .pool-in; brief = omega (arith, i .brief); so-far = λ depth end e h. i .so-far depth end e (laws.ref-step (a .ty .now) (a .words .now) (a .pool .now) depth end (l .left) (l .t) (l .w) (l .p) (l .len) (c .before .before .before .before .before .before .before .before .before .before .before .before .before .loop-test .taken) _ _ refl (c .before .before .before .before .before .before .before .if3 .left ∙ c .before .before .before .before .before .before .before .before .wide .ensures) refl (c .before .before .before .before .if6 .taken) _ _ refl (c .before .ref-refusal .ensures) (c .if8 .left) e h) }
 
 -- src/lib.rt:151:13
 stand-requires-7 : tie.Need-stand-requires-7 Inv-loop μ-loop

@@ -25,7 +25,7 @@ refuse-requires c κs = search needs
 
 -- src/lib.rt:167:13
 returns : tie.Need-returns
-returns c = let a = c .before .before .before .before .before .before .args in let q = c .before .before .before .before .before .before .pre in let u = q .0 in rw (c .refuse .ensures) (record { onward = laws.stays (a .words .now) (a .pool .now) (a .s) _ _ u; says = λ kt kv kx low depth. laws.cut-ref (a .ty .now) (a .words .now) (a .pool .now) depth (a .s .ty) (a .s .word) (a .s .pool) (a .s .len) (a .kind) kt kv (a .x) kx (c .before .before .if1 .taken) _ (c .before .if2 .taken) })
+returns c = let a = c .before .before .before .before .before .before .args in let q = c .before .before .before .before .before .before .pre in let u = q .0 in rw (c .refuse .ensures) (record { onward = laws.stays (a .words .now) (a .pool .now) (a .s) _ _ u; says = λ kt kv kx low depth end. laws.cut-ref (a .ty .now) (a .words .now) (a .pool .now) depth end (a .s .ty) (a .s .word) (a .s .pool) (a .s .len) (a .kind) kt kv (a .x) kx (c .before .before .if1 .taken) _ (c .before .if2 .taken) })
 
 -- src/lib.rt:169:33
 add-ref-refusal : tie.Need-add-ref-refusal
@@ -61,7 +61,7 @@ stand-requires c κs = search needs
 
 -- src/lib.rt:171:13
 returns-2 : tie.Need-returns-2
-returns-2 c = let a = c .before .before .before .before .before .before .before .before .before .before .args in let q = c .before .before .before .before .before .before .before .before .before .before .pre in let u = q .0 in rw (c .stand .ensures) (record { onward = record { on = omega arith; word-in = q .2; pool-in = u .pool-in; short = omega (arith, u .short) }; says = λ kt kv kx low depth. laws.a-ref (a .ty .now) (a .words .now) (a .pool .now) depth (a .s .ty) (a .s .word) (a .s .pool) (a .s .len) (a .kind) kt kv (a .x) kx (c .before .before .before .before .before .before .if1 .taken) _ _ refl (c .before .before .before .ref-refusal .ensures) _ (c .before .before .if3 .taken) refl refl refl refl (ap (λ (j : ℕ). a .s .len + j) (sym (ref-long (a .x)))) })
+returns-2 c = let a = c .before .before .before .before .before .before .before .before .before .before .args in let q = c .before .before .before .before .before .before .before .before .before .before .pre in let u = q .0 in rw (c .stand .ensures) (record { onward = record { on = omega arith; word-in = q .2; pool-in = u .pool-in; short = omega (arith, u .short) }; says = λ kt kv kx low depth end. laws.a-ref (a .ty .now) (a .words .now) (a .pool .now) depth end (a .s .ty) (a .s .word) (a .s .pool) (a .s .len) (a .kind) kt kv (a .x) kx (c .before .before .before .before .before .before .if1 .taken) _ _ refl (c .before .before .before .ref-refusal .ensures) _ (c .before .before .if3 .taken) refl refl refl refl (ap (λ (j : ℕ). a .s .len + j) (sym (ref-long (a .x)))) })
 
 -- src/lib.rt:174:13
 refuse-requires-2 : tie.Need-refuse-requires-2
@@ -69,7 +69,7 @@ refuse-requires-2 c κs = search needs
 
 -- src/lib.rt:174:13
 returns-3 : tie.Need-returns-3
-returns-3 c = let a = c .before .before .before .before .before .before .before .before .before .before .args in let q = c .before .before .before .before .before .before .before .before .before .before .pre in let u = q .0 in rw (c .refuse2 .ensures) (record { onward = laws.stays (a .words .now) (a .pool .now) (a .s) _ _ u; says = λ kt kv kx low depth. laws.bad-ref (a .ty .now) (a .words .now) (a .pool .now) depth (a .s .ty) (a .s .word) (a .s .pool) (a .s .len) (a .kind) kt kv (a .x) kx (c .before .before .before .before .before .before .if1 .taken) _ _ refl (c .before .before .before .ref-refusal .ensures) _ _ (c .before .before .before .ref-refusal .ensures .reserved (c .before .if4 .taken)) refl (omega arith) })
+returns-3 c = let a = c .before .before .before .before .before .before .before .before .before .before .args in let q = c .before .before .before .before .before .before .before .before .before .before .pre in let u = q .0 in rw (c .refuse2 .ensures) (record { onward = laws.stays (a .words .now) (a .pool .now) (a .s) _ _ u; says = λ kt kv kx low depth end. laws.bad-ref (a .ty .now) (a .words .now) (a .pool .now) depth end (a .s .ty) (a .s .word) (a .s .pool) (a .s .len) (a .kind) kt kv (a .x) kx (c .before .before .before .before .before .before .if1 .taken) _ _ refl (c .before .before .before .ref-refusal .ensures) _ _ (c .before .before .before .ref-refusal .ensures .reserved (c .before .if4 .taken)) refl (omega arith) })
 
 -- src/lib.rt:176:9
 refuse-requires-3 : tie.Need-refuse-requires-3
@@ -77,7 +77,7 @@ refuse-requires-3 c κs = search needs
 
 -- src/lib.rt:176:9
 returns-4 : tie.Need-returns-4
-returns-4 c = let a = c .before .before .before .before .before .before .before .before .before .before .args in let q = c .before .before .before .before .before .before .before .before .before .before .pre in let u = q .0 in rw (c .refuse3 .ensures) (record { onward = laws.stays (a .words .now) (a .pool .now) (a .s) _ _ u; says = λ kt kv kx low depth. laws.bad-ref (a .ty .now) (a .words .now) (a .pool .now) depth (a .s .ty) (a .s .word) (a .s .pool) (a .s .len) (a .kind) kt kv (a .x) kx (c .before .before .before .before .before .before .if1 .taken) _ _ refl (c .before .before .before .ref-refusal .ensures) _ _ (c .before .before .before .ref-refusal .ensures .other (c .before .before .if3 .left) (c .before .if4 .left)) refl (omega arith) })
+returns-4 c = let a = c .before .before .before .before .before .before .before .before .before .before .args in let q = c .before .before .before .before .before .before .before .before .before .before .pre in let u = q .0 in rw (c .refuse3 .ensures) (record { onward = laws.stays (a .words .now) (a .pool .now) (a .s) _ _ u; says = λ kt kv kx low depth end. laws.bad-ref (a .ty .now) (a .words .now) (a .pool .now) depth end (a .s .ty) (a .s .word) (a .s .pool) (a .s .len) (a .kind) kt kv (a .x) kx (c .before .before .before .before .before .before .if1 .taken) _ _ refl (c .before .before .before .ref-refusal .ensures) _ _ (c .before .before .before .ref-refusal .ensures .other (c .before .before .if3 .left) (c .before .if4 .left)) refl (omega arith) })
 
 -- src/lib.rt:178:9
 run-of-requires : tie.Need-run-of-requires
@@ -93,7 +93,7 @@ refuse-requires-4 c κs = search needs
 
 -- src/lib.rt:180:9
 returns-5 : tie.Need-returns-5
-returns-5 c = let a = c .before .before .before .before .before .before .before .args in let q = c .before .before .before .before .before .before .before .pre in let u = q .0 in rw (c .refuse4 .ensures) (record { onward = laws.stays (a .words .now) (a .pool .now) (a .s) _ _ u; says = λ kt kv kx low depth. laws.too-long (a .ty .now) (a .words .now) (a .pool .now) depth (a .s .ty) (a .s .word) (a .s .pool) (a .s .len) (a .kind) kt kv (a .x) kx _ low (omega (arith, c .before .before .run-of .ensures, c .before .if5 .taken)) })
+returns-5 c = let a = c .before .before .before .before .before .before .before .args in let q = c .before .before .before .before .before .before .before .pre in let u = q .0 in rw (c .refuse4 .ensures) (record { onward = laws.stays (a .words .now) (a .pool .now) (a .s) _ _ u; says = λ kt kv kx low depth end. laws.too-long (a .ty .now) (a .words .now) (a .pool .now) depth end (a .s .ty) (a .s .word) (a .s .pool) (a .s .len) (a .kind) kt kv (a .x) kx _ low (omega (arith, c .before .before .run-of .ensures, c .before .if5 .taken)) })
 
 -- src/lib.rt:182:44
 add-plain-len : tie.Need-add-plain-len
@@ -125,7 +125,7 @@ stand-requires-2 c κs = search needs
 
 -- src/lib.rt:158:1
 returns-6 : tie.Need-returns-6
-returns-6 c = let a = c .before .before .before .before .before .before .before .before .before .args in let q = c .before .before .before .before .before .before .before .before .before .pre in let u = q .0 in rw (c .stand2 .ensures) (record { onward = record { on = omega arith; word-in = q .2; pool-in = omega (arith, u .pool-in, c .before .before .before .if5 .left); short = omega (arith, u .short, c .before .before .plain-len .ensures .1) }; says = λ kt kv kx low depth. laws.a-plain (a .ty .now) (a .words .now) (a .pool .now) depth (a .s .ty) (a .s .word) (a .s .pool) (a .s .len) (a .kind) kt kv (a .x) kx _ _ (c .before .before .before .before .run-of .ensures) (omega (arith, low, c .before .before .before .before .before .if1 .left)) refl refl refl refl (ap (λ (j : ℕ). a .s .len + j) (c .before .before .plain-len .ensures .0)) })
+returns-6 c = let a = c .before .before .before .before .before .before .before .before .before .args in let q = c .before .before .before .before .before .before .before .before .before .pre in let u = q .0 in rw (c .stand2 .ensures) (record { onward = record { on = omega arith; word-in = q .2; pool-in = omega (arith, u .pool-in, c .before .before .before .if5 .left); short = omega (arith, u .short, c .before .before .plain-len .ensures .1) }; says = λ kt kv kx low depth end. laws.a-plain (a .ty .now) (a .words .now) (a .pool .now) depth end (a .s .ty) (a .s .word) (a .s .pool) (a .s .len) (a .kind) kt kv (a .x) kx _ _ (c .before .before .before .before .run-of .ensures) (omega (arith, low, c .before .before .before .before .before .if1 .left)) refl refl refl refl (ap (λ (j : ℕ). a .s .len + j) (c .before .before .plain-len .ensures .0)) })
 
 pub fit-scalar-spec : {M : Type 1} → statement M
 fit-scalar-spec =
