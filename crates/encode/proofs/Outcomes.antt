@@ -7,11 +7,11 @@ use Prim.Native.Nat.{ℕ, _^_, _≤_, _<_}
 use native.Mathlib.Omega.{arith}
 use native.Mathlib.Nat.{zero-add}
 use borrow.Author.Tests.{le-leb, lt-leb, lt-ltb}
-use lib.ListN.{length}
+use lib.ListN.{length, drop}
 use Rattle.format.specs.Answer.{Answer, ok, refused, andThen}
 use Rattle.format.specs.Tree.{Ty, Val}
 use Rattle.format.specs.TypeSheet as types
-use Rattle.format.specs.TypeSheet.{typeOf, isSome}
+use Rattle.format.specs.TypeSheet.{typeOf, isSome, maxTypeWords}
 use Rattle.format.specs.ValueSheet as values
 use Rattle.format.specs.ValueSheet.{valueOf, maxValueWords}
 use Rattle.format.specs.Encode.{encodeTyped, keyBytes, encodeKey, maxKeyBytes}
@@ -19,14 +19,15 @@ use Rattle.format.specs.Calls.{Called, withType, withValue, written, encodeType
 use Rattle.format.specs.Fields.{put}
 use Rattle.format.proofs.TypeLaws as type-laws
 use Rattle.format.proofs.ValueLaws as value-laws
-use Rattle.fit.specs.declared.Fit.{Fit}
 use Rattle.fit.specs.Fit as fit
+use Rattle.fit.specs.Fit.{refusals, numberOf, lowOf}
+use Rattle.fit.specs.Sum.{sumLen}
 use Rattle.write.specs.declared.Put.{Put}
 use Rattle.write.specs.Write as write
 use Rattle.encode.specs.declared.Encoded.{Encoded}
 use Rattle.encode.specs.declared.Encoded.the-variants.{Done, Refused}
-use Rattle.encode.specs.Encoded.{encodedOf, Measures, FitKey, PutKey}
-use Rattle.encode.proofs.Keys.{whole-measure, whole-write}
+use Rattle.encode.specs.Encoded.{encodedOf, Judges, FitKey, KeyLen, PutKey}
+use Rattle.encode.proofs.Keys.{whole-judge, whole-long, whole-write}
 
 none-of : {A : Type 0} (o : Option A) → isSome o ≡ false → o ≡ none
 none-of (some a) e = absurd (let z : _≡_ {A = ℕ} 0 1 = cc in omega arith)
@@ -59,15 +60,18 @@ sheets ty words pool ht hv =
 pub sizes : (words pool : List ℕ) → isSome (valueOf words pool) ≡ true → (length words ≤ maxValueWords) × (length pool ≤ maxValueWords)
 sizes words pool h = let v = value-laws.its-tree words pool h in (v .1 .long, v .1 .large)
 
--- ---- what a measure says by its number
+pub type-size : (ty : List ℕ) → isSome (typeOf ty) ≡ true → length ty ≤ maxTypeWords
+type-size ty h = type-laws.its-tree ty h .1 .long
 
-said-no : (a : Answer (List ℕ)) (r : Fit) → Measures a r → (r .no ≡ 0 → ⊥) → a ≡ refused (r .no) (r .detail)
-said-no (ok bs) r s q = absurd (q (s .0))
+-- ---- what a judgement says
+
+said-no : (a : Answer (List ℕ)) (r : ℕ) → Judges a r → refusals ≤ r → a ≡ refused (numberOf r) (lowOf r)
+said-no (ok bs) r s q = absurd (omega arith)
 said-no (refused m d) r s q = rw (s .number, s .detail)
 
-said-ok : (a : Answer (List ℕ)) (r : Fit) → Measures a r → r .no ≡ 0 → (bs : List ℕ) × (a ≡ ok bs) × (r .len ≡ length bs)
-said-ok (ok bs) r s q = (bs, refl, s .1)
-said-ok (refused m d) r s q = absurd (omega (arith, s .number, s .some))
+said-ok : (a : Answer (List ℕ)) (r : ℕ) → Judges a r → r < refusals → (bs : List ℕ) × (a ≡ ok bs)
+said-ok (ok bs) r s q = (bs, refl)
+said-ok (refused m d) r s q = absurd (omega (arith, s .high))
 
 -- ---- a call with an encoder F
 
@@ -108,24 +112,27 @@ module _ (ty words pool out : List ℕ) where
   unfolding encodeTypedCall
   typed-value g h = bad-value ty words pool out encodeTyped g h
 
-  module _ (s : Sheets ty words pool) (r : Fit) (one : fit.One ty words pool 0 (length ty) 0 0 0 0 r) where
-    typed-says : Measures (encodeTyped (s .t) (s .v)) r
-    typed-says = whole-measure ty words pool r one (s .t) (s .v) (s .admits-type) (s .admits-value)
+  module _ (s : Sheets ty words pool) (r : ℕ) (one : fit.One ty words 0 (length ty) 0 0 r) where
+    typed-says : Judges (encodeTyped (s .t) (s .v)) r
+    typed-says = whole-judge ty words pool r one (s .t) (s .v) (s .admits-type) (s .admits-value)
 
-    pub typed-no : (r .no ≡ 0 → ⊥) → Typed (Refused (r .no) (r .detail)) out
+    pub typed-no : refusals ≤ r → Typed (Refused (numberOf r) (lowOf r)) out
     unfolding encodeTypedCall
     typed-no q = refuses ty words pool out encodeTyped s _ _ (said-no (encodeTyped (s .t) (s .v)) r typed-says q)
 
-    module _ (q : r .no ≡ 0) where
-      pub typed-room : length out < r .len → r .len < 2 ^ 64 → Typed (Refused 17 (r .len)) out
-      unfolding encodeTypedCall
-      typed-room h g = let b = said-ok (encodeTyped (s .t) (s .v)) r typed-says q in no-room ty words pool out encodeTyped s (b .0) (r .len) (b .1) (b .2) h g
+    module _ (q : r < refusals) (n : ℕ) (kn : n ≡ sumLen (drop 0 words) pool) where
+      typed-bytes : (bs : List ℕ) × (encodeTyped (s .t) (s .v) ≡ ok bs) × (n ≡ length bs)
+      typed-bytes = let b = said-ok (encodeTyped (s .t) (s .v)) r typed-says q in (b .0, b .1, kn ∙ whole-long words pool (s .t) (s .v) (b .0) (s .admits-value) (b .1))
 
-      pub typed-done : r .len ≤ length out → (p : Put) (l′ : List ℕ) → write.One words pool 0 0 0 out p l′ → Typed (Done (r .len)) l′
+      pub typed-room : length out < n → n < 2 ^ 64 → Typed (Refused 17 n) out
+      unfolding encodeTypedCall
+      typed-room h g = let b = typed-bytes in no-room ty words pool out encodeTyped s (b .0) n (b .1) (b .2) h g
+
+      pub typed-done : n ≤ length out → (p : Put) (l′ : List ℕ) → write.One words pool 0 0 0 out p l′ → Typed (Done n) l′
       unfolding encodeTypedCall
       typed-done h p l′ wrote =
-          let b = said-ok (encodeTyped (s .t) (s .v)) r typed-says q in
-          done ty words pool out encodeTyped s (b .0) (r .len) l′ (b .1) (b .2) h (whole-write words pool out p l′ wrote (s .t) (s .v) (b .0) (s .admits-value) (b .1) (omega (arith, b .2)))
+          let b = typed-bytes in
+          done ty words pool out encodeTyped s (b .0) n l′ (b .1) (b .2) h (whole-write words pool out p l′ wrote (s .t) (s .v) (b .0) (s .admits-value) (b .1) (omega (arith, b .2)))
 
 -- ---- encode_key
 
@@ -154,31 +161,34 @@ module _ (ty words pool out : List ℕ) where
   unfolding encodeKeyCall
   key-value g h = bad-value ty words pool out encodeKey g h
 
-  module _ (s : Sheets ty words pool) (r : Fit) (fits : FitKey ty words pool r) where
-    key-says : Measures (keyBytes (s .t) (s .v)) r
-    key-says = fits .says (s .t) (s .v) (s .admits-type) (s .admits-value)
+  module _ (s : Sheets ty words pool) (r : ℕ) (fits : FitKey ty words r) where
+    key-says : Judges (keyBytes (s .t) (s .v)) r
+    key-says = fits .says pool (s .t) (s .v) (s .admits-type) (s .admits-value)
 
-    pub key-no : (r .no ≡ 0 → ⊥) → Keyed (Refused (r .no) (r .detail)) out
+    pub key-no : refusals ≤ r → Keyed (Refused (numberOf r) (lowOf r)) out
     unfolding encodeKeyCall
     key-no q = refuses ty words pool out encodeKey s _ _ (key-refused (s .t) (s .v) _ _ (said-no (keyBytes (s .t) (s .v)) r key-says q))
 
-    module _ (q : r .no ≡ 0) where
-      pub key-limit : maxKeyBytes < r .len → Keyed (Refused 7 (r .len)) out
+    module _ (q : r < refusals) (n : ℕ) (kn : KeyLen ty words pool n) where
+      its-bytes : (bs : List ℕ) × (keyBytes (s .t) (s .v) ≡ ok bs) × (n ≡ length bs)
+      its-bytes = let b = said-ok (keyBytes (s .t) (s .v)) r key-says q in (b .0, b .1, kn .long (s .t) (s .v) (b .0) (s .admits-type) (s .admits-value) (b .1))
+
+      pub key-limit : maxKeyBytes < n → Keyed (Refused 7 n) out
       unfolding encodeKeyCall
       key-limit h =
-          let b = said-ok (keyBytes (s .t) (s .v)) r key-says q in
+          let b = its-bytes in
           refuses ty words pool out encodeKey s _ _ (key-long (s .t) (s .v) (b .0) (b .1) (omega (arith, b .2)) ∙ ap (refused 7) (sym (b .2)))
 
-      module _ (short : r .len ≤ maxKeyBytes) where
-        pub key-room : length out < r .len → Keyed (Refused 17 (r .len)) out
+      module _ (short : n ≤ maxKeyBytes) where
+        pub key-room : length out < n → Keyed (Refused 17 n) out
         unfolding encodeKeyCall
         key-room h =
-            let b = said-ok (keyBytes (s .t) (s .v)) r key-says q in
-            no-room ty words pool out encodeKey s (b .0) (r .len) (key-short (s .t) (s .v) (b .0) (b .1) (omega (arith, b .2))) (b .2) h (omega arith)
+            let b = its-bytes in
+            no-room ty words pool out encodeKey s (b .0) n (key-short (s .t) (s .v) (b .0) (b .1) (omega (arith, b .2))) (b .2) h (omega arith)
 
-        pub key-done : r .len ≤ length out → (l′ : List ℕ) → PutKey ty words pool out l′ → Keyed (Done (r .len)) l′
+        pub key-done : n ≤ length out → (l′ : List ℕ) → PutKey ty words pool out l′ → Keyed (Done n) l′
         unfolding encodeKeyCall
         key-done h l′ put-it =
-            let b = said-ok (keyBytes (s .t) (s .v)) r key-says q in
-            done ty words pool out encodeKey s (b .0) (r .len) l′ (key-short (s .t) (s .v) (b .0) (b .1) (omega (arith, b .2))) (b .2) h
+            let b = its-bytes in
+            done ty words pool out encodeKey s (b .0) n l′ (key-short (s .t) (s .v) (b .0) (b .1) (omega (arith, b .2))) (b .2) h
             (put-it .wrote (s .t) (s .v) (b .0) (s .admits-type) (s .admits-value) (b .1) (omega (arith, b .2)))

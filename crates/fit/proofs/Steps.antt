@@ -1,20 +1,19 @@
--- What fits and how long it is, by the kind of type and value, and of fields one after another.
+-- What fits, by the kind of type and value, and of fields one after another.
 use mathlib.Core.Path.{_≡_, refl, sym, ap, _∙_, subst}
 use mathlib.Core.List.{List, [], _∷_, _++_}
 use mathlib.Core.Option.{Option, some, none}
-use mathlib.Core.Bool.{Bool, true, false}
-use Prim.Native.Nat.{ℕ, zero, suc, _+_, _-_, _*_, _≤_, _<_, max}
+use Prim.Native.Nat.{ℕ, zero, suc, _+_, _-_, _*_, _/_, _%_, _≤_, _<_, _^_, max}
 use native.Mathlib.Omega.{arith}
 use borrow.Author.Tests.{eq-eqb, ne-eqb, lt-ltb, le-ltb}
 use lib.Dec.{eqb}
-use lib.ListN.{length, getD, length-append}
-use lib.Seq.{slice}
+use lib.ListN.{length, getD}
 use Rattle.format.specs.Answer.{if, Answer, ok, refused, andThen}
 use Rattle.format.specs.Tree.{Ty, Tys, Alts, Val, Vals, valKind, numberIn, fieldsIn, payloadIn}
 use Rattle.format.specs.Sheet.{fieldCount, altCount, valCount, tyWords, tysWords, altsWords, valWords, valPool, valsWords, valsPool}
-use Rattle.format.specs.TypeSheet.{nesting, nestings, altNestings, maxGroups}
-use Rattle.format.specs.Scalar.{uintBytes, refBytes, predicateOf, sequenceOf}
-use Rattle.format.specs.Encode.{valBytes, valsBytes, fits, fitsAll, fitsUnion, fitsRef, inUnion, groupAt, fine}
+use Rattle.format.specs.TypeSheet.{nesting, nestings, altNestings, maxGroups, maxTypeWords}
+use Rattle.format.specs.ValueSheet.{Proper, AllProper}
+use Rattle.format.specs.Scalar.{predicateOf, sequenceOf}
+use Rattle.format.specs.Encode.{fits, fitsAll, fitsUnion, fitsRef, inUnion, groupAt, fine}
 use Rattle.format.proofs.TypePlaces.{TypeIn, TypesIn, AltsIn, tyKind, ref-in}
 use Rattle.format.proofs.TypePlaces as types
 use Rattle.format.proofs.ValuePlaces.{ValueIn, ValuesIn, wordOf}
@@ -22,25 +21,58 @@ use Rattle.format.proofs.ValuePlaces as values
 use Rattle.format.proofs.KindLaws.{built}
 use Rattle.format.proofs.Choose.{choose, chosen, fits-chosen}
 use Rattle.format.proofs.FitLaws.{typed, kinds, of-kinds, mismatch, predicateIn, typesIn, altsIn, chosen-nesting}
-use Rattle.format.proofs.PlainLaws.{plainPool, plainBytes, Plain, plain}
+use Rattle.format.proofs.PlainLaws.{plain}
 use Rattle.format.proofs.EncodePlaces.{record-type, record-value, union-value}
-use Rattle.scalar.proofs.Widths.{ref-long}
 use Rattle.sheet.specs.Places.{Picks, Chosen, SkipsAlts}
-use Rattle.fit.specs.declared.Fit.{Fit}
-use Rattle.fit.specs.Fit.{Ready, Onward, standing, refusing, Good, Bad, Gives, Known, Handed, One, Row, Passed, RefSays, Closed}
+use Rattle.fit.specs.Fit.{places, refusals, lowOf, wordAt, numberOf, Stands, Refuses, Ready, Onward, Good, Bad, Gives, Known, Handed, One, Row, Step, RefSays, Plain, Closed}
 
--- ---- what an answer says by its number
+-- ---- one word
 
-pub said-good : (a : Answer Unit) (n e f g : ℕ) (r : Fit) → Gives a n e f g r → r .no ≡ 0 → (a ≡ fine) × Good n e f g r
-said-good (ok u) n e f g r s q = (refl, s)
-said-good (refused m d) n e f g r s q = absurd (omega (arith, s .number, s .some))
+pub stands : (t w r : ℕ) → w ≤ 1048576 → r ≡ t % places + w * places → Stands t w r
+unfolding lowOf wordAt
+stands t w r h e = record { low = omega arith; word = omega arith; place = λ s. omega arith }
 
-pub said-bad : (a : Answer Unit) (n e f g : ℕ) (r : Fit) → Gives a n e f g r → (r .no ≡ 0 → ⊥) → (m : ℕ) × (d : ℕ) × (a ≡ refused m d) × Bad m d r
-said-bad (ok u) n e f g r s q = absurd (q (s .none))
-said-bad (refused m d) n e f g r s q = (m, d, refl, s)
+pub refuses : (m d r : ℕ) → m < 256 → r ≡ refusals + m * places + d % places → Refuses m d r
+unfolding lowOf numberOf
+refuses m d r h e = record { high = omega arith; number = omega arith; detail = λ s. omega arith }
 
-abbrev longer : (a : Answer Unit) (n m e f g : ℕ) (r : Fit) → n ≡ m → Gives a n e f g r → Gives a m e f g r
-longer a n m e f g r q s = subst (λ (i : ℕ). Gives a i e f g r) q s
+pub low-is : (r : ℕ) → r % places ≡ lowOf r
+unfolding lowOf
+low-is r = refl
+
+pub word-is : (r : ℕ) → r / places ≡ wordAt r
+unfolding wordAt
+word-is r = refl
+
+pub number-is : (r : ℕ) → refusals ≤ r → (r - refusals) / places ≡ numberOf r
+unfolding numberOf
+number-is r h = omega arith
+
+pub good : (t w e f r : ℕ) → Stands t w r → t ≡ e → e ≤ maxTypeWords → w ≡ f → Good e f r
+good t w e f r s q h k = record { low = s .low; at-ty = s .place (omega arith) ∙ q; at-word = s .word ∙ k }
+
+pub bad : (m d c r : ℕ) → Refuses m d r → d ≡ c → c < places → Bad m c r
+bad m d c r s q h = record { high = s .high; number = s .number; detail = s .detail (omega arith) ∙ q }
+
+-- a refusal stands nowhere
+pub nowhere : (words : List ℕ) (w r : ℕ) → refusals ≤ r → Onward words w r
+nowhere words w r h = record { onward = λ l. absurd (omega arith) }
+
+pub there : (words : List ℕ) (w t w′ r : ℕ) → Stands t w′ r → w ≤ w′ → w′ ≤ length words → Onward words w r
+there words w t w′ r s h k = record { onward = λ l. (rw (s .word) h, rw (s .word) k) }
+
+pub later : (words : List ℕ) (w w′ r : ℕ) → w ≤ w′ → Onward words w′ r → Onward words w r
+later words w w′ r h q = record { onward = λ l. let o = q .onward l in (omega arith, o .1) }
+
+-- ---- what an answer says
+
+pub said-good : (a : Answer Unit) (e f r : ℕ) → Gives a e f r → r < refusals → (a ≡ fine) × Good e f r
+said-good (ok u) e f r s q = (refl, s)
+said-good (refused m d) e f r s q = absurd (omega (arith, s .high))
+
+pub said-bad : (a : Answer Unit) (e f r : ℕ) → Gives a e f r → refusals ≤ r → (m : ℕ) × (d : ℕ) × (a ≡ refused m d) × Bad m d r
+said-bad (ok u) e f r s q = absurd (omega (arith, s .low))
+said-bad (refused m d) e f r s q = (m, d, refl, s)
 
 -- ---- a known end
 
@@ -60,234 +92,262 @@ unfolding fieldCount tyWords
 no-types Tys.NoTy e = refl
 no-types (Tys.AddTy t ts) e = absurd (omega arith)
 
+-- ---- proper values
+
+proper-fields : (vs : Vals) → Proper (Val.Record vs) → AllProper vs
+unfolding Proper
+proper-fields vs o = o
+
+proper-union : (d : ℕ) (v : Val) → Proper (Val.Union d v) → (d < places) × Proper v
+unfolding Proper
+proper-union d v o = (omega (arith, o .0), o .1)
+
+proper-both : (v : Val) (vs : Vals) → AllProper (Vals.AddVal v vs) → Proper v × AllProper vs
+unfolding Proper
+proper-both v vs o = o
+
 -- ---- a value
 
-module _ (ty words pool : List ℕ) (depth end t w p len : ℕ) where
-  abbrev This : Fit → Ty → Val → Type 0
-  This r T v = (e f g : ℕ) → TypeIn ty t T e → Known end e → nesting T ≤ maxGroups → ValueIn words pool w p v f g → Gives (fits T depth v) (len + length (valBytes depth v)) e f g r
+module _ (ty words : List ℕ) (depth end t w : ℕ) where
+  abbrev This : ℕ → Ty → Val → Type 0
+  This r T v = (pool : List ℕ) (p e f g : ℕ) → TypeIn ty t T e → Known end e → nesting T ≤ maxGroups → ValueIn words pool w p v f g → Proper v → Gives (fits T depth v) e f r
 
   -- no type stands past the end
-  pub gone : (r : Fit) → length ty ≤ t → One ty words pool depth end t w p len r
-  gone r h = record { one = λ T v e f g a known d b. absurd (omega (arith, types.kind-is ty t e T a .0)) }
+  pub gone : (r : ℕ) → length ty ≤ t → One ty words depth end t w r
+  gone r h = record { one = λ T v pool p e f g a known deep b o. absurd (omega (arith, types.kind-is ty t e T a .0)) }
 
   module _ (k : ℕ) (kt : k ≡ getD ty t 0) where
     type-kind : (T : Ty) (e : ℕ) → TypeIn ty t T e → tyKind T ≡ k
     type-kind T e a = sym (types.kind-is ty t e T a .1) ∙ sym kt
 
-    pub differ : (r : Fit) → (getD words w 0 ≡ k → ⊥) → r .no ≡ 11 → r .detail ≡ k → One ty words pool depth end t w p len r
-    differ r h n d = record {
-      one = λ T v e f g a known deep b.
+    pub differ : (r d : ℕ) → (getD words w 0 ≡ k → ⊥) → d ≡ k → Refuses 11 d r → One ty words depth end t w r
+    differ r d h q s = record {
+      one = λ T v pool p e f g a known deep b o.
           let same = type-kind T e a in
-          let q = mismatch T depth v (λ z. h (values.kind-is words pool w p f g v b .1 ∙ z ∙ same)) in
-          rw q (record { number = n; detail = d ∙ sym same; some = omega arith });
+          let m = mismatch T depth v (λ z. h (values.kind-is words pool w p f g v b .1 ∙ z ∙ same)) in
+          rw m (bad 11 d _ r s (q ∙ sym same) (omega (arith, kinds T .1)));
     }
 
     module _ (kv : getD words w 0 ≡ k) where
-      value-kind : (v : Val) (f g : ℕ) → ValueIn words pool w p v f g → valKind v ≡ k
-      value-kind v f g b = sym (values.kind-is words pool w p f g v b .1) ∙ kv
+      value-kind : (v : Val) (pool : List ℕ) (p f g : ℕ) → ValueIn words pool w p v f g → valKind v ≡ k
+      value-kind v pool p f g b = sym (values.kind-is words pool w p f g v b .1) ∙ kv
 
       -- any value but Null has two words
-      second : (T : Ty) (v : Val) (e f g : ℕ) → TypeIn ty t T e → ValueIn words pool w p v f g → (w + 1 < length words) × (getD words (w + 1) 0 ≡ wordOf v)
-      second T v e f g a b = values.word-is words pool w p f g v b (λ z. omega (arith, kinds T .0, type-kind T e a, value-kind v f g b))
+      second : (T : Ty) (v : Val) (pool : List ℕ) (p e f g : ℕ) → TypeIn ty t T e → ValueIn words pool w p v f g → (w + 1 < length words) × (getD words (w + 1) 0 ≡ wordOf v)
+      second T v pool p e f g a b = values.word-is words pool w p f g v b (λ z. omega (arith, kinds T .0, type-kind T e a, value-kind v pool p f g b))
 
-      pub short : (r : Fit) → length words - w < 2 → One ty words pool depth end t w p len r
-      short r h = record { one = λ T v e f g a known deep b. absurd (omega (arith, second T v e f g a b .0)) }
+      pub short : (r : ℕ) → length words - w < 2 → One ty words depth end t w r
+      short r h = record { one = λ T v pool p e f g a known deep b o. absurd (omega (arith, second T v pool p e f g a b .0)) }
+
+      -- ---- Int, Str and Bytes
+
+      single : (T : Ty) (v : Val) → tyKind T ≡ k → valKind v ≡ k → k < 4 → (fits T depth v ≡ fine) × (length (tyWords T) ≡ 1)
+      unfolding fits tyWords
+      single Ty.Int v q s h = (rw (eq-eqb (valKind v) 1 (s ∙ sym q)), refl)
+      single Ty.Str v q s h = (rw (eq-eqb (valKind v) 2 (s ∙ sym q)), refl)
+      single Ty.Bytes v q s h = (rw (eq-eqb (valKind v) 3 (s ∙ sym q)), refl)
+      single (Ty.Ref i) v q s h = absurd (omega arith)
+      single (Ty.Record ts) v q s h = absurd (omega arith)
+      single (Ty.Union us) v q s h = absurd (omega arith)
+
+      pub a-plain : k < 4 → Step ty words depth end t w (t + 1) (w + 2)
+      a-plain h = record {
+        step = λ T v pool p e f g a known deep b o.
+            let x = second T v pool p e f g a b .1 in
+            let n = plain words pool w p f g k (wordOf v) depth v (value-kind v pool p f g b) refl (omega (arith, kinds T .0, type-kind T e a)) (omega arith) b in
+            let s = single T v (type-kind T e a) (value-kind v pool p f g b) h in
+            (s .0, omega (arith, a .long, s .1), sym (n .ends));
+      }
 
       module _ (x : ℕ) (kx : x ≡ getD words (w + 1) 0) where
-        numbers : (T : Ty) (v : Val) (e f g : ℕ) → k < 5 → TypeIn ty t T e → ValueIn words pool w p v f g → Plain pool w p f g k x depth v
-        numbers T v e f g h a b =
-            plain words pool w p f g k x depth v (value-kind v f g b) (sym (second T v e f g a b .1) ∙ sym kx) (omega (arith, kinds T .0, type-kind T e a)) h b
-
-        -- ---- Int, Str and Bytes
-
-        pub too-long : (r : Fit) → k < 5 → length pool - p < plainPool k x → One ty words pool depth end t w p len r
-        too-long r h q = record { one = λ T v e f g a known deep b. let n = numbers T v e f g h a b in absurd (omega (arith, n .pool-ends, n .pool-in)) }
-
-        single : (T : Ty) (v : Val) → tyKind T ≡ k → valKind v ≡ k → k < 4 → (fits T depth v ≡ fine) × (length (tyWords T) ≡ 1)
-        unfolding fits tyWords
-        single Ty.Int v q s h = (rw (eq-eqb (valKind v) 1 (s ∙ sym q)), refl)
-        single Ty.Str v q s h = (rw (eq-eqb (valKind v) 2 (s ∙ sym q)), refl)
-        single Ty.Bytes v q s h = (rw (eq-eqb (valKind v) 3 (s ∙ sym q)), refl)
-        single (Ty.Ref i) v q s h = absurd (omega arith)
-        single (Ty.Record ts) v q s h = absurd (omega arith)
-        single (Ty.Union us) v q s h = absurd (omega arith)
-
-        pub a-plain : (r : Fit) (m : ℕ) → m ≡ plainPool k x → k < 4 → r .no ≡ 0 → r .ty ≡ t + 1 → r .word ≡ w + 2 → r .pool ≡ p + m → r .len ≡ len + length (plainBytes k x (slice p (p + m) pool)) → One ty words pool depth end t w p len r
-        a-plain r m i h e0 e1 e2 e3 e4 = record {
-          one = λ T v e f g a known deep b.
-              let n = numbers T v e f g (omega arith) a b in
-              let s = single T v (type-kind T e a) (value-kind v f g b) h in
-              rw (s .0)
-              (record {
-                none = e0;
-                at-ty = omega (arith, a .long, s .1);
-                at-word = e2 ∙ sym (n .ends);
-                at-pool = omega (arith, n .pool-ends);
-                long = e4 ∙ ap (λ (j : ℕ). len + length (plainBytes k x (slice p (p + j) pool))) i ∙ ap (λ (l : List ℕ). len + length l) (sym (n .bytes));
-              });
-        }
-
         -- ---- references
 
         module _ (q : k ≡ 4) where
-          on-ref : (r : Fit) → ((i y : ℕ) → This r (Ty.Ref i) (Val.Ref y)) → One ty words pool depth end t w p len r
+          on-ref : (r : ℕ) → ((i y : ℕ) → This r (Ty.Ref i) (Val.Ref y)) → One ty words depth end t w r
           unfolding typed built
-          on-ref r h = record { one = λ T v e f g a known deep b. of-kinds (This r) 4 T v (type-kind T e a ∙ q) (value-kind v f g b ∙ q) (h (predicateIn T) (numberIn v)) e f g a known deep b }
+          on-ref r h = record {
+            one = λ T v pool p e f g a known deep b o. of-kinds (This r) 4 T v (type-kind T e a ∙ q) (value-kind v pool p f g b ∙ q) (h (predicateIn T) (numberIn v)) pool p e f g a known deep b o;
+          }
 
-          pub cut-ref : (r : Fit) → length ty - t < 2 → One ty words pool depth end t w p len r
-          cut-ref r h = on-ref r (λ i y e f g a known deep b. absurd (omega (arith, ref-in ty t e i a .0)))
+          pub cut-ref : (r : ℕ) → length ty - t < 2 → One ty words depth end t w r
+          cut-ref r h = on-ref r (λ i y pool p e f g a known deep b o. absurd (omega (arith, ref-in ty t e i a .0)))
 
           module _ (c m : ℕ) (kc : c ≡ getD ty (t + 1) 0) (says : RefSays c x m) where
-            of-ref : (i y e f g : ℕ) → TypeIn ty t (Ty.Ref i) e → ValueIn words pool w p (Val.Ref y) f g → fitsRef i y ≡ fitsRef c x
-            of-ref i y e f g a b =
-                let s = second (Ty.Ref i) (Val.Ref y) e f g a b .1 in
+            of-ref : (i y : ℕ) (pool : List ℕ) (p e f g : ℕ) → TypeIn ty t (Ty.Ref i) e → ValueIn words pool w p (Val.Ref y) f g → fitsRef i y ≡ fitsRef c x
+            of-ref i y pool p e f g a b =
+                let s = second (Ty.Ref i) (Val.Ref y) pool p e f g a b .1 in
                 ap (λ (j : ℕ). fitsRef j y) (sym (ref-in ty t e i a .1) ∙ sym kc) ∙ ap (fitsRef c) (sym s ∙ sym kx)
 
-            pub bad-ref : (r : Fit) (d : ℕ) → fitsRef c x ≡ refused (r .no) d → r .detail ≡ d → 0 < r .no → One ty words pool depth end t w p len r
+            pub bad-ref : (r n d : ℕ) → fitsRef c x ≡ refused n d → Bad n d r → One ty words depth end t w r
             unfolding fits
-            bad-ref r d h e1 e2 = on-ref r (λ i y e f g a known deep b. rw (of-ref i y e f g a b, h) (record { number = refl; detail = e1; some = e2 }))
+            bad-ref r n d h s = on-ref r (λ i y pool p e f g a known deep b o. rw (of-ref i y pool p e f g a b, h) s)
 
-            pub a-ref : (r : Fit) → m ≡ 0 → r .no ≡ 0 → r .ty ≡ t + 2 → r .word ≡ w + 2 → r .pool ≡ p → r .len ≡ len + length (refBytes x) → One ty words pool depth end t w p len r
-            unfolding fits valBytes tyWords valWords valPool
-            a-ref r h e0 e1 e2 e3 e4 = on-ref r (λ i y e f g a known deep b.
-                let s : x ≡ y = kx ∙ second (Ty.Ref i) (Val.Ref y) e f g a b .1 in
-                rw (of-ref i y e f g a b, says .fits h)
-                (record { none = e0; at-ty = e1 ∙ sym (a .long); at-word = e2 ∙ sym (b .words .long); at-pool = omega (arith, b .pool .long); long = e4 ∙ ap (λ (j : ℕ). len + length (refBytes j)) s }))
+            abbrev Passes : Ty → Val → Type 0
+            Passes T v = (pool : List ℕ) (p e f g : ℕ) → TypeIn ty t T e → Known end e → nesting T ≤ maxGroups → ValueIn words pool w p v f g → Proper v → (fits T depth v ≡ fine) × (t + 2 ≡ e) × (w + 2 ≡ f)
+
+            of-the-ref : m ≡ 0 → (i y : ℕ) → Passes (Ty.Ref i) (Val.Ref y)
+            unfolding fits tyWords valWords
+            of-the-ref h i y pool p e f g a known deep b o = (of-ref i y pool p e f g a b ∙ says .fits h, sym (a .long), sym (b .words .long))
+
+            pub a-ref : m ≡ 0 → Step ty words depth end t w (t + 2) (w + 2)
+            unfolding typed built
+            a-ref h = record {
+              step = λ T v pool p e f g a known deep b o. of-kinds Passes 4 T v (type-kind T e a ∙ q) (value-kind v pool p f g b ∙ q) (of-the-ref h (predicateIn T) (numberIn v)) pool p e f g a known deep b o;
+            }
 
         -- ---- records
 
         module _ (q : k ≡ 5) where
-          on-record : (r : Fit) → ((ts : Tys) (vs : Vals) → This r (Ty.Record ts) (Val.Record vs)) → One ty words pool depth end t w p len r
+          on-record : (r : ℕ) → ((ts : Tys) (vs : Vals) → This r (Ty.Record ts) (Val.Record vs)) → One ty words depth end t w r
           unfolding typed built
-          on-record r h = record { one = λ T v e f g a known deep b. of-kinds (This r) 5 T v (type-kind T e a ∙ q) (value-kind v f g b ∙ q) (h (typesIn T) (fieldsIn v)) e f g a known deep b }
+          on-record r h = record {
+            one = λ T v pool p e f g a known deep b o. of-kinds (This r) 5 T v (type-kind T e a ∙ q) (value-kind v pool p f g b ∙ q) (h (typesIn T) (fieldsIn v)) pool p e f g a known deep b o;
+          }
 
-          pub cut-record : (r : Fit) → length ty - t < 2 → One ty words pool depth end t w p len r
-          cut-record r h = on-record r (λ ts vs e f g a known deep b. absurd (omega (arith, record-type ty t e ts a .inside)))
+          pub cut-record : (r : ℕ) → length ty - t < 2 → One ty words depth end t w r
+          cut-record r h = on-record r (λ ts vs pool p e f g a known deep b o. absurd (omega (arith, record-type ty t e ts a .inside)))
 
           module _ (n : ℕ) (kn : n ≡ getD ty (t + 1) 0) where
-            pub miscount : (r : Fit) → (x ≡ n → ⊥) → r .no ≡ 6 → r .detail ≡ 0 → One ty words pool depth end t w p len r
+            pub miscount : (r : ℕ) → (x ≡ n → ⊥) → Refuses 6 0 r → One ty words depth end t w r
             unfolding fits
-            miscount r h i j = on-record r (λ ts vs e f g a known deep b.
+            miscount r h s = on-record r (λ ts vs pool p e f g a known deep b o.
                 let c = record-type ty t e ts a in
                 let d = record-value words pool w p f g vs b in
-                rw (ne-eqb (fieldCount ts) (valCount vs) (λ z. h (kx ∙ d .count ∙ sym z ∙ sym (c .count) ∙ sym kn))) (record { number = i; detail = j; some = omega arith }))
+                rw (ne-eqb (fieldCount ts) (valCount vs) (λ z. h (kx ∙ d .count ∙ sym z ∙ sym (c .count) ∙ sym kn))) (bad 6 0 0 r s refl (omega arith)))
 
-            pub too-deep : (r : Fit) → x ≡ n → 256 ≤ depth → r .no ≡ 6 → r .detail ≡ 0 → One ty words pool depth end t w p len r
+            pub too-deep : (r : ℕ) → x ≡ n → 256 ≤ depth → Refuses 6 0 r → One ty words depth end t w r
             unfolding fits
-            too-deep r h g′ i j = on-record r (λ ts vs e f g a known deep b.
+            too-deep r h g′ s = on-record r (λ ts vs pool p e f g a known deep b o.
                 let c = record-type ty t e ts a in
                 let d = record-value words pool w p f g vs b in
-                rw (eq-eqb (fieldCount ts) (valCount vs) (sym (c .count) ∙ sym kn ∙ sym h ∙ kx ∙ d .count), le-ltb depth 256 g′) (record { number = i; detail = j; some = omega arith }))
+                rw (eq-eqb (fieldCount ts) (valCount vs) (sym (c .count) ∙ sym kn ∙ sym h ∙ kx ∙ d .count), le-ltb depth 256 g′) (bad 6 0 0 r s refl (omega arith)))
 
-            pub a-record : (r : Fit) → x ≡ n → depth < 256 → Row ty words pool (depth + 1) end n (t + 2) (w + 2) p (len + 2) r → One ty words pool depth end t w p len r
-            unfolding fits valBytes nesting
-            a-record r h g′ row = on-record r (λ ts vs e f g a known deep b.
+            pub a-record : (r : ℕ) → x ≡ n → depth < 256 → Row ty words (depth + 1) end n (t + 2) (w + 2) r → One ty words depth end t w r
+            unfolding fits nesting
+            a-record r h g′ row = on-record r (λ ts vs pool p e f g a known deep b o.
                 let c = record-type ty t e ts a in
                 let d = record-value words pool w p f g vs b in
                 let m : n ≡ fieldCount ts = kn ∙ c .count in
-                let o : n ≡ valCount vs = sym h ∙ kx ∙ d .count in
-                let inner = valsBytes (depth + 1) vs in
-                rw (eq-eqb (fieldCount ts) (valCount vs) (sym m ∙ o), lt-ltb depth 256 g′)
-                (longer (fitsAll ts (depth + 1) vs) _ _ e f g r (omega (arith, length-append inner (0 ∷ []))) (row .row ts vs e f g m o (c .fields) known (omega arith) (d .fields))))
+                let l : n ≡ valCount vs = sym h ∙ kx ∙ d .count in
+                rw (eq-eqb (fieldCount ts) (valCount vs) (sym m ∙ l), lt-ltb depth 256 g′) (row .row ts vs pool p e f g m l (c .fields) known (omega arith) (d .fields) (proper-fields vs o)))
 
         -- ---- unions
 
         module _ (q : 5 ≤ k) (q′ : k ≡ 5 → ⊥) (place left : ℕ) (picked : Picks ty t x place left) where
-          on-union : (r : Fit) → ((us : Alts) (d : ℕ) (u : Val) → This r (Ty.Union us) (Val.Union d u)) → One ty words pool depth end t w p len r
+          on-union : (r : ℕ) → ((us : Alts) (d : ℕ) (u : Val) → This r (Ty.Union us) (Val.Union d u)) → One ty words depth end t w r
           unfolding typed built
           on-union r h = record {
-            one = λ T v e f g a known deep b.
+            one = λ T v pool p e f g a known deep b o.
                 let six : k ≡ 6 = omega (arith, kinds T .1, type-kind T e a) in
-                of-kinds (This r) 6 T v (type-kind T e a ∙ six) (value-kind v f g b ∙ six) (h (altsIn T) (numberIn v) (payloadIn v)) e f g a known deep b;
+                of-kinds (This r) 6 T v (type-kind T e a ∙ six) (value-kind v pool p f g b ∙ six) (h (altsIn T) (numberIn v) (payloadIn v)) pool p e f g a known deep b o;
           }
 
           -- what the tag chooses
-          found : (us : Alts) (d : ℕ) (u : Val) (e f g : ℕ) → TypeIn ty t (Ty.Union us) e → nesting (Ty.Union us) ≤ maxGroups → ValueIn words pool w p (Val.Union d u) f g → Chosen ty e place left (choose d us)
-          found us d u e f g a deep b =
-              let s = union-value words pool w p f g d u b .tag in
-              subst (λ (i : ℕ). Chosen ty e place left (choose i us)) (kx ∙ s) (picked .picks us e a deep)
+          found : (us : Alts) (d e : ℕ) → x ≡ d → TypeIn ty t (Ty.Union us) e → nesting (Ty.Union us) ≤ maxGroups → Chosen ty e place left (choose d us)
+          found us d e y a deep = subst (λ (i : ℕ). Chosen ty e place left (choose i us)) y (picked .picks us e a deep)
 
           abbrev inside : ℕ → Val → Ty → Answer Unit
           inside d u T = inUnion d (groupAt depth (fits T (depth + 1) u))
 
-          pub no-alternative : (r : Fit) → place ≡ 0 → r .no ≡ 10 → r .detail ≡ x → One ty words pool depth end t w p len r
+          pub no-alternative : (r : ℕ) → place ≡ 0 → Refuses 10 x r → One ty words depth end t w r
           unfolding fits
-          no-alternative r z i j = on-union r (λ us d u e f g a known deep b.
-              let s = union-value words pool w p f g d u b .tag in
-              rw (fits-chosen us depth d u) (go d u e f g _ (choose d us) (j ∙ kx ∙ s) (found us d u e f g a deep b)))
+          no-alternative r z s = on-union r (λ us d u pool p e f g a known deep b o.
+              let y : x ≡ d = kx ∙ union-value words pool w p f g d u b .tag in
+              rw (fits-chosen us depth d u) (go d u e f (choose d us) (bad 10 x d r s y (proper-union d u o .0)) (found us d e y a deep)))
             where
-              go : (d : ℕ) (u : Val) (e f g n : ℕ) (o : Option (Ty × Alts)) → r .detail ≡ d → Chosen ty e place left o → Gives (chosen o (inside d u) (refused 10 d)) n e f g r
-              go d u e f g n none y c = record { number = i; detail = y; some = omega arith }
-              go d u e f g n (some s) y c = absurd (omega (arith, c .0))
+              go : (d : ℕ) (u : Val) (e f : ℕ) (c : Option (Ty × Alts)) → Bad 10 d r → Chosen ty e place left c → Gives (chosen c (inside d u) (refused 10 d)) e f r
+              go d u e f none y c = y
+              go d u e f (some i) y c = absurd (omega (arith, c .0))
 
           module _ (z : place ≡ 0 → ⊥) where
-            pub deep-union : (r : Fit) → 256 ≤ depth → r .no ≡ 12 → r .detail ≡ x → One ty words pool depth end t w p len r
+            pub deep-union : (r : ℕ) → 256 ≤ depth → Refuses 12 x r → One ty words depth end t w r
             unfolding fits inUnion
-            deep-union r h i j = on-union r (λ us d u e f g a known deep b.
-                let s = union-value words pool w p f g d u b .tag in
-                rw (fits-chosen us depth d u) (go d u e f g _ (choose d us) (j ∙ kx ∙ s) (found us d u e f g a deep b)))
+            deep-union r h s = on-union r (λ us d u pool p e f g a known deep b o.
+                let y : x ≡ d = kx ∙ union-value words pool w p f g d u b .tag in
+                rw (fits-chosen us depth d u) (go d u e f (choose d us) (bad 12 x d r s y (proper-union d u o .0)) (found us d e y a deep)))
               where
-                go : (d : ℕ) (u : Val) (e f g n : ℕ) (o : Option (Ty × Alts)) → r .detail ≡ d → Chosen ty e place left o → Gives (chosen o (inside d u) (refused 10 d)) n e f g r
-                go d u e f g n none y c = absurd (z c)
-                go d u e f g n (some s) y c = rw (le-ltb depth 256 h) (record { number = i; detail = y; some = omega arith })
+                go : (d : ℕ) (u : Val) (e f : ℕ) (c : Option (Ty × Alts)) → Bad 12 d r → Chosen ty e place left c → Gives (chosen c (inside d u) (refused 10 d)) e f r
+                go d u e f none y c = absurd (z c)
+                go d u e f (some i) y c = rw (le-ltb depth 256 h) y
 
-            pub a-union : (end₁ : ℕ) (r₁ r : Fit) → depth < 256 → Handed end left end₁ → One ty words pool (depth + 1) end₁ place (w + 2) p (len + 2 + length (uintBytes x)) r₁ → Closed ty x left end r₁ r → One ty words pool depth end t w p len r
-            unfolding fits valBytes nesting
-            a-union end₁ r₁ r h hand right shut = on-union r (λ us d u e f g a known deep b.
+            pub a-union : (end₁ r₁ r : ℕ) → depth < 256 → Handed end left end₁ → One ty words (depth + 1) end₁ place (w + 2) r₁ → Closed ty x left end r₁ r → One ty words depth end t w r
+            unfolding fits nesting
+            a-union end₁ r₁ r h hand right shut = on-union r (λ us d u pool p e f g a known deep b o.
                 let v = union-value words pool w p f g d u b in
                 let y : x ≡ d = kx ∙ v .tag in
-                let inner = valBytes (depth + 1) u in
-                let m : len + 2 + length (uintBytes x) + length inner ≡ len + suc (length (uintBytes d ++ (inner ++ 0 ∷ []))) =
-                omega (arith, ap (λ (i : ℕ). length (uintBytes i)) y, length-append (uintBytes d) (inner ++ 0 ∷ []), length-append inner (0 ∷ [])) in
-                rw (fits-chosen us depth d u) (go us d u e f g _ (choose d us) refl y m known (omega arith) (v .payload) (found us d u e f g a deep b)))
+                let n = proper-union d u o in
+                rw (fits-chosen us depth d u) (go us d u pool p e f g (choose d us) refl y known (omega arith) (v .payload) n (found us d e y a deep)))
               where
-                go : (us : Alts) (d : ℕ) (u : Val) (e f g n : ℕ) (o : Option (Ty × Alts)) → choose d us ≡ o → x ≡ d → len + 2 + length (uintBytes x) + length (valBytes (depth + 1) u) ≡ n → Known end e → altNestings us ≤ maxGroups
-                    → ValueIn words pool (w + 2) p u f g → Chosen ty e place left o → Gives (chosen o (inside d u) (refused 10 d)) n e f g r
-                go us d u e f g n none o y m known deep b c = absurd (z c)
-                go us d u e f g n (some s) o y m known deep b c =
-                    let k = chosen-nesting us d s o in
+                go : (us : Alts) (d : ℕ) (u : Val) (pool : List ℕ) (p e f g : ℕ) (i : Option (Ty × Alts)) → choose d us ≡ i → x ≡ d → Known end e → altNestings us ≤ maxGroups
+                    → ValueIn words pool (w + 2) p u f g → (d < places) × Proper u → Chosen ty e place left i → Gives (chosen i (inside d u) (refused 10 d)) e f r
+                go us d u pool p e f g none i y known deep b n c = absurd (z c)
+                go us d u pool p e f g (some s) i y known deep b n c =
+                    let k = chosen-nesting us d s i in
                     let a = fits (s .0) (depth + 1) u in
-                    let one = longer a _ n (c .1) f g r₁ m (right .one (s .0) u (c .1) f g (c .2) (passed-on end left end₁ e (c .1) hand known (λ i. omega (arith, no-alts (s .1) (c .4 ∙ i), c .3 .long))) (omega (arith, k .0)) b) in
-                    rw (lt-ltb depth 256 h, ← y) (shut .says a n (c .1) f g (s .1) e one (c .3) known (c .4) (omega (arith, k .1)))
+                    let one =
+                    right .one (s .0) u pool p (c .1) f g (c .2) (passed-on end left end₁ e (c .1) hand known (λ j. omega (arith, no-alts (s .1) (c .4 ∙ j), c .3 .long))) (omega (arith, k .0)) b (n .1) in
+                    rw (lt-ltb depth 256 h, ← y) (shut .says a (c .1) f (s .1) e one (c .3) known (c .4) (omega (arith, k .1)) (omega (arith, n .0)))
+
+-- ---- a step is an answer that is not refused
+
+pub of-step : (ty words : List ℕ) (depth end t w t′ w′ r : ℕ) → length ty ≤ maxTypeWords → Step ty words depth end t w t′ w′ → Stands t′ w′ r → One ty words depth end t w r
+of-step ty words depth end t w t′ w′ r small st s = record {
+  one = λ T v pool p e f g a known deep b o.
+      let q = st .step T v pool p e f g a known deep b o in
+      rw (q .0) (good t′ w′ e f r s (q .1) (omega (arith, a .within)) (q .2));
+}
+
+pub to-step : (ty words : List ℕ) (depth end t w r : ℕ) → One ty words depth end t w r → r < refusals → Step ty words depth end t w (lowOf r) (wordAt r)
+to-step ty words depth end t w r one h = record {
+  step = λ T v pool p e f g a known deep b o.
+      let q = said-good (fits T depth v) e f r (one .one T v pool p e f g a known deep b o) h in
+      (q .0, q .1 .at-ty, q .1 .at-word);
+}
 
 -- ---- a union's end
 
-tagged : (tag m d n e f g : ℕ) (r : Fit) → m ≡ 6 → r .no ≡ 12 → r .detail ≡ tag → Gives (inUnion tag (refused m d)) n e f g r
+tagged : (tag m d e f r : ℕ) → m ≡ 6 → Bad 12 tag r → Gives (inUnion tag (refused m d)) e f r
 unfolding inUnion
-tagged tag m d n e f g r q i j = rw (eq-eqb m 6 q) (record { number = i; detail = j; some = omega arith })
+tagged tag m d e f r q s = rw (eq-eqb m 6 q) s
 
-tagged-kind : (tag m d n e f g : ℕ) (r : Fit) → m ≡ 11 → r .no ≡ 12 → r .detail ≡ tag → Gives (inUnion tag (refused m d)) n e f g r
+tagged-kind : (tag m d e f r : ℕ) → m ≡ 11 → Bad 12 tag r → Gives (inUnion tag (refused m d)) e f r
 unfolding inUnion
-tagged-kind tag m d n e f g r q i j = rw (ne-eqb m 6 (λ z. omega arith), eq-eqb m 11 q) (record { number = i; detail = j; some = omega arith })
+tagged-kind tag m d e f r q s = rw (ne-eqb m 6 (λ z. omega arith), eq-eqb m 11 q) s
 
-module _ (ty : List ℕ) (tag left end : ℕ) (s : Fit) where
-  abbrev Ends : Fit → Type 0
-  Ends r = (a : Answer Unit) (n m f g : ℕ) (us : Alts) (e : ℕ) → Gives a n m f g s → AltsIn ty m us e → Known end e → altCount us ≡ left → altNestings us ≤ maxGroups → Gives (inUnion tag a) n e f g r
+module _ (ty : List ℕ) (tag left end s : ℕ) where
+  abbrev Ends : ℕ → Type 0
+  Ends r = (a : Answer Unit) (m f : ℕ) (us : Alts) (e : ℕ) → Gives a m f s → AltsIn ty m us e → Known end e → altCount us ≡ left → altNestings us ≤ maxGroups → tag < places → Gives (inUnion tag a) e f r
 
-  pub ends-well : (r : Fit) → s .no ≡ 0 → SkipsAlts ty (s .ty) left (r .ty) → r .no ≡ 0 → r .word ≡ s .word → r .pool ≡ s .pool → r .len ≡ s .len → Ends r
-  unfolding inUnion
-  ends-well r z skip e0 e1 e2 e3 (ok u) n m f g us e h a known c d =
-      record { none = e0; at-ty = skip .skips us e (rw (h .at-ty) a) c d; at-word = e1 ∙ h .at-word; at-pool = e2 ∙ h .at-pool; long = e3 ∙ h .long }
-  ends-well r z skip e0 e1 e2 e3 (refused k d) n m f g us e h a known c deep = absurd (omega (arith, h .number, h .some))
+  module _ (small : length ty ≤ maxTypeWords) (z : s < refusals) where
+    pub ends-well : (r t : ℕ) → SkipsAlts ty (lowOf s) left t → Stands t (wordAt s) r → Ends r
+    unfolding inUnion
+    ends-well r t skip st (ok u) m f us e h a known c d tl = good t (wordAt s) e f r st (skip .skips us e (rw (h .at-ty) a) c d) (omega (arith, a .within)) (h .at-word)
+    ends-well r t skip st (refused k d) m f us e h a known c deep tl = absurd (omega (arith, h .high))
 
-  pub ends-known : (r : Fit) → s .no ≡ 0 → (end ≡ 0 → ⊥) → r .ty ≡ end → r .no ≡ 0 → r .word ≡ s .word → r .pool ≡ s .pool → r .len ≡ s .len → Ends r
-  unfolding inUnion
-  ends-known r z there e4 e0 e1 e2 e3 (ok u) n m f g us e h a known c d =
-      record { none = e0; at-ty = e4 ∙ sym (known there); at-word = e1 ∙ h .at-word; at-pool = e2 ∙ h .at-pool; long = e3 ∙ h .long }
-  ends-known r z there e4 e0 e1 e2 e3 (refused k d) n m f g us e h a known c deep = absurd (omega (arith, h .number, h .some))
+    pub ends-known : (r : ℕ) → (end ≡ 0 → ⊥) → Stands end (wordAt s) r → Ends r
+    unfolding inUnion
+    ends-known r n st (ok u) m f us e h a known c d tl = good end (wordAt s) e f r st (sym (known n)) (omega (arith, a .within)) (h .at-word)
+    ends-known r n st (refused k d) m f us e h a known c deep tl = absurd (omega (arith, h .high))
 
-  pub ends-six : (r : Fit) → s .no ≡ 6 → r .no ≡ 12 → r .detail ≡ tag → Ends r
-  ends-six r z i j (ok u) n m f g us e h a known c deep = absurd (omega (arith, h .none))
-  ends-six r z i j (refused k d) n m f g us e h a known c deep = tagged tag k d n e f g r (sym (h .number) ∙ z) i j
+  pub closes : (r t : ℕ) → s < refusals → Stands t (wordAt s) r → Ends r → Closed ty tag left end s r
+  closes r t z st ends = record { word = λ l. (z, st .word); says = ends }
 
-  pub ends-eleven : (r : Fit) → s .no ≡ 11 → r .no ≡ 12 → r .detail ≡ tag → Ends r
-  ends-eleven r z i j (ok u) n m f g us e h a known c deep = absurd (omega (arith, h .none))
-  ends-eleven r z i j (refused k d) n m f g us e h a known c deep = tagged-kind tag k d n e f g r (sym (h .number) ∙ z) i j
+  module _ (z : refusals ≤ s) where
+    pub refuses-on : (r : ℕ) → refusals ≤ r → Ends r → Closed ty tag left end s r
+    refuses-on r h ends = record { word = λ l. absurd (omega arith); says = ends }
 
-  pub ends-kept : (s .no ≡ 0 → ⊥) → (s .no ≡ 6 → ⊥) → (s .no ≡ 11 → ⊥) → Ends s
-  unfolding inUnion
-  ends-kept x y z (ok u) n m f g us e h a known c deep = absurd (x (h .none))
-  ends-kept x y z (refused k d) n m f g us e h a known c deep = rw (ne-eqb k 6 (λ q. y (h .number ∙ q)), ne-eqb k 11 (λ q. z (h .number ∙ q))) h
+    pub ends-six : (r : ℕ) → numberOf s ≡ 6 → Refuses 12 tag r → Ends r
+    ends-six r n st (ok u) m f us e h a known c deep tl = absurd (omega (arith, h .low))
+    ends-six r n st (refused k d) m f us e h a known c deep tl = tagged tag k d e f r (sym (h .number) ∙ n) (bad 12 tag tag r st refl tl)
+
+    pub ends-eleven : (r : ℕ) → numberOf s ≡ 11 → Refuses 12 tag r → Ends r
+    ends-eleven r n st (ok u) m f us e h a known c deep tl = absurd (omega (arith, h .low))
+    ends-eleven r n st (refused k d) m f us e h a known c deep tl = tagged-kind tag k d e f r (sym (h .number) ∙ n) (bad 12 tag tag r st refl tl)
+
+    pub ends-kept : (numberOf s ≡ 6 → ⊥) → (numberOf s ≡ 11 → ⊥) → Ends s
+    unfolding inUnion
+    ends-kept x y (ok u) m f us e h a known c deep tl = absurd (omega (arith, h .low))
+    ends-kept x y (refused k d) m f us e h a known c deep tl = rw (ne-eqb k 6 (λ q. x (h .number ∙ q)), ne-eqb k 11 (λ q. y (h .number ∙ q))) h
 
 -- ---- references
 
@@ -305,90 +365,66 @@ ref-other c x h q = record { fits = λ z. absurd (omega arith); reserved = λ z.
 
 -- ---- fields one after another
 
-module _ (ty words pool : List ℕ) (depth end n t w p len : ℕ) where
-  abbrev These : Fit → Tys → Vals → Type 0
-  These r ts vs = (e f g : ℕ) → n ≡ fieldCount ts → n ≡ valCount vs → TypesIn ty t ts e → Known end e → nestings ts ≤ maxGroups → ValuesIn words pool w p vs f g → Gives (fitsAll ts depth vs) (len + length (valsBytes depth vs)) e f g r
+module _ (ty words : List ℕ) (depth end n t w : ℕ) where
+  abbrev These : ℕ → Tys → Vals → Type 0
+  These r ts vs = (pool : List ℕ) (p e f g : ℕ) → n ≡ fieldCount ts → n ≡ valCount vs → TypesIn ty t ts e → Known end e → nestings ts ≤ maxGroups → ValuesIn words pool w p vs f g → AllProper vs → Gives (fitsAll ts depth vs) e f r
 
-  pub row-none : (r : Fit) → n ≡ 0 → r .no ≡ 0 → r .ty ≡ t → r .word ≡ w → r .pool ≡ p → r .len ≡ len → Row ty words pool depth end n t w p len r
-  unfolding fits valBytes fieldCount valCount tyWords valWords valPool
-  row-none r q e0 e1 e2 e3 e4 = record { row = go }
+  pub row-none : (r : ℕ) → length ty ≤ maxTypeWords → n ≡ 0 → Stands t w r → Row ty words depth end n t w r
+  unfolding fits fieldCount valCount tyWords valWords
+  row-none r small q s = record { row = go }
     where
       go : (ts : Tys) (vs : Vals) → These r ts vs
-      go Tys.NoTy Vals.NoVal e f g i j a known d b =
-          record { none = e0; at-ty = omega (arith, a .long); at-word = omega (arith, b .words .long); at-pool = omega (arith, b .pool .long); long = omega arith }
-      go Tys.NoTy (Vals.AddVal v vs) e f g i j a known d b = absurd (omega arith)
-      go (Tys.AddTy T ts) vs e f g i j a known d b = absurd (omega arith)
+      go Tys.NoTy Vals.NoVal pool p e f g i j a known d b o = good t w e f r s (omega (arith, a .long)) (omega (arith, a .within)) (omega (arith, b .words .long))
+      go Tys.NoTy (Vals.AddVal v vs) pool p e f g i j a known d b o = absurd (omega arith)
+      go (Tys.AddTy T ts) vs pool p e f g i j a known d b o = absurd (omega arith)
 
-  module _ (h : 0 < n) (end₁ : ℕ) (hand : Handed end (n - 1) end₁) (first : Fit) (right : One ty words pool depth end₁ t w p len first) where
-    pub row-bad : (first .no ≡ 0 → ⊥) → Row ty words pool depth end n t w p len first
+  module _ (h : 0 < n) (end₁ : ℕ) (hand : Handed end (n - 1) end₁) where
+    pub row-bad : (first : ℕ) → One ty words depth end₁ t w first → refusals ≤ first → Row ty words depth end n t w first
     unfolding fits fieldCount valCount nesting
-    row-bad q = record { row = go }
+    row-bad first right q = record { row = go }
       where
         go : (ts : Tys) (vs : Vals) → These first ts vs
-        go Tys.NoTy vs e f g i j a known d b = absurd (omega arith)
-        go (Tys.AddTy T ts) Vals.NoVal e f g i j a known d b = absurd (omega arith)
-        go (Tys.AddTy T ts) (Vals.AddVal v vs) e f g i j a known d b =
+        go Tys.NoTy vs pool p e f g i j a known d b o = absurd (omega arith)
+        go (Tys.AddTy T ts) Vals.NoVal pool p e f g i j a known d b o = absurd (omega arith)
+        go (Tys.AddTy T ts) (Vals.AddVal v vs) pool p e f g i j a known d b o =
             let x = types.field-in ty t e T ts a in
             let y = values.field-in words pool w p f g v vs b in
-            let s = said-bad (fits T depth v) _ _ _ _ first (right .one T v _ _ _ (x .0) (passed-on end (n - 1) end₁ e _ hand known (λ z. omega (arith, no-types ts (omega arith), x .1 .long))) (omega arith) (y .0)) q in
+            let m = proper-both v vs o in
+            let s =
+            said-bad (fits T depth v) _ _ first
+            (right .one T v pool p _ _ _ (x .0) (passed-on end (n - 1) end₁ e _ hand known (λ z. omega (arith, no-types ts (omega arith), x .1 .long))) (omega arith) (y .0) (m .0)) q in
             rw (s .2) (s .3)
 
-    pub row-more : first .no ≡ 0 → (r : Fit) → Row ty words pool depth end (n - 1) (first .ty) (first .word) (first .pool) (first .len) r → Row ty words pool depth end n t w p len r
-    unfolding fits valBytes fieldCount valCount nesting
-    row-more q r rest = record { row = go }
+    pub row-more : (t′ w′ : ℕ) → Step ty words depth end₁ t w t′ w′ → (r : ℕ) → Row ty words depth end (n - 1) t′ w′ r → Row ty words depth end n t w r
+    unfolding fits fieldCount valCount nesting
+    row-more t′ w′ st r rest = record { row = go }
       where
         go : (ts : Tys) (vs : Vals) → These r ts vs
-        go Tys.NoTy vs e f g i j a known d b = absurd (omega arith)
-        go (Tys.AddTy T ts) Vals.NoVal e f g i j a known d b = absurd (omega arith)
-        go (Tys.AddTy T ts) (Vals.AddVal v vs) e f g i j a known d b =
+        go Tys.NoTy vs pool p e f g i j a known d b o = absurd (omega arith)
+        go (Tys.AddTy T ts) Vals.NoVal pool p e f g i j a known d b o = absurd (omega arith)
+        go (Tys.AddTy T ts) (Vals.AddVal v vs) pool p e f g i j a known d b o =
             let x = types.field-in ty t e T ts a in
             let y = values.field-in words pool w p f g v vs b in
-            let s = said-good (fits T depth v) _ _ _ _ first (right .one T v _ _ _ (x .0) (passed-on end (n - 1) end₁ e _ hand known (λ z. omega (arith, no-types ts (omega arith), x .1 .long))) (omega arith) (y .0)) q in
-            let k = s .1 in
-            let m = rest .row ts vs e f g (omega arith) (omega arith) (rw (k .at-ty) (x .1)) known (omega arith) (rw (k .at-word, k .at-pool) (y .1)) in
-            rw (s .0) (longer (fitsAll ts depth vs) _ _ e f g r (omega (arith, k .long, length-append (valBytes depth v) (valsBytes depth vs))) m)
+            let m = proper-both v vs o in
+            let s =
+            st .step T v pool p _ _ _ (x .0) (passed-on end (n - 1) end₁ e _ hand known (λ z. omega (arith, no-types ts (omega arith), x .1 .long))) (omega arith) (y .0) (m .0) in
+            rw (s .0) (rest .row ts vs pool (p + length (valPool v)) e f g (omega arith) (omega arith) (rw (s .1) (x .1)) known (omega arith) (rw (s .2) (y .1)) (m .1))
 
-  -- the plain steps
-  module _ (h : 0 < n) (k x : ℕ) (kt : k ≡ getD ty t 0) (kv : getD words w 0 ≡ k) (kx : x ≡ getD words (w + 1) 0) where
-    pub plain-step : k < 4 → (m : ℕ) → m ≡ plainPool k x → (more : ℕ) → more ≡ length (plainBytes k x (slice p (p + m) pool)) → (r : Fit)
-        → Row ty words pool depth end (n - 1) (t + 1) (w + 2) (p + m) (len + more) r → Row ty words pool depth end n t w p len r
-    plain-step q m i more e r rest =
-        let f = standing (t + 1) (w + 2) (p + m) (len + more) 0 in
-        row-more h 0 (unknown end (n - 1)) f (a-plain ty words pool depth 0 t w p len k kt kv x kx f m i q refl refl refl refl (ap (λ (j : ℕ). len + j) e)) refl r rest
+  pub row-plain : 0 < n → (m : ℕ) → (m ≡ 0 → ⊥) → Plain ty words t w m → (r : ℕ) → Row ty words depth end (n - 1) (t + m) (w + 2) r → Row ty words depth end n t w r
+  row-plain h m z q r rest = row-more h 0 (unknown end (n - 1)) (t + m) (w + 2) (q .says z depth 0) r rest
 
-    pub ref-step : k ≡ 4 → (c m : ℕ) → c ≡ getD ty (t + 1) 0 → RefSays c x m → m ≡ 0 → (r : Fit) → Row ty words pool depth end (n - 1) (t + 2) (w + 2) p (len + 9) r → Row ty words pool depth end n t w p len r
-    ref-step q c m kc says z r rest =
-        let f = standing (t + 2) (w + 2) p (len + 9) 0 in
-        row-more h 0 (unknown end (n - 1)) f (a-ref ty words pool depth 0 t w p len k kt kv x kx q c m kc says f z refl refl refl refl (ap (λ (j : ℕ). len + j) (sym (ref-long x)))) refl r rest
+-- ---- one plain field
 
--- ---- the loops
+pub no-plain : (ty words : List ℕ) (t w : ℕ) → Plain ty words t w 0
+no-plain ty words t w = record { type-in = λ z. absurd (z refl); word-in = λ z. absurd (z refl); says = λ z. absurd (z refl) }
 
--- over plain fields
-pub record Passing (ty words pool : List ℕ) (t₀ w₀ p₀ len₀ left₀ t w p len left : ℕ) : Type 0 where
+-- ---- the loop over the fields
+
+pub record Walking (ty words : List ℕ) (depth end t₀ w₀ n t w left : ℕ) : Type 0 where
   pub on : w₀ ≤ w
   pub word-in : w ≤ length words
-  pub pool-in : p ≤ length pool
-  pub brief : len ≤ 6 * w + 2 * p
-  pub fewer : left ≤ left₀
-  pub so-far : (depth end : ℕ) (e : Fit) → Row ty words pool depth end left t w p len e → Row ty words pool depth end left₀ t₀ w₀ p₀ len₀ e
-
-pub stopped : (ty words pool : List ℕ) (s : Fit) (t w p len left : ℕ) → Passing ty words pool (s .ty) (s .word) (s .pool) (s .len) (s .left) t w p len left → Passed ty words pool s (standing t w p len left)
-stopped ty words pool s t w p len left i =
-    record { onward = record { on = i .on; word-in = i .word-in; pool-in = i .pool-in; short = i .brief }; none = refl; fewer = i .fewer; so-far = i .so-far }
-
--- over all fields
-pub record Walking (ty words pool : List ℕ) (depth end : ℕ) (s r : Fit) : Type 0 where
-  pub on : s .word ≤ r .word
-  pub word-in : r .word ≤ length words
-  pub pool-in : r .pool ≤ length pool
-  pub brief : r .len ≤ 6 * r .word + 2 * r .pool
-  pub so-far : (e : Fit) → Row ty words pool depth end (r .left) (r .ty) (r .word) (r .pool) (r .len) e → Row ty words pool depth end (s .left) (s .ty) (s .word) (s .pool) (s .len) e
-
-pub later : (words pool : List ℕ) (w w′ : ℕ) (r : Fit) → w ≤ w′ → Onward words pool w′ r → Onward words pool w r
-later words pool w w′ r h q = record { on = omega arith; word-in = q .word-in; pool-in = q .pool-in; short = q .short }
-
-pub stays : (words pool : List ℕ) (s : Fit) (n d : ℕ) → Ready words pool s → Onward words pool (s .word) (refusing s n d)
-stays words pool s n d q = record { on = omega arith; word-in = q .word-in; pool-in = q .pool-in; short = q .short }
+  pub fewer : left ≤ n
+  pub so-far : (r : ℕ) → Row ty words depth end left t w r → Row ty words depth end n t₀ w₀ r
 
 pub pos : (n : ℕ) → (n ≡ 0 → ⊥) → 0 < n
 pos zero h = absurd (h refl)

@@ -1,63 +1,78 @@
--- What the measuring walk answers: where type and value end and how long the encoding is, or the refusal.
+-- What the measuring walk answers, in one word: where type and value end, or the refusal.
 use mathlib.Core.Path.{_≡_}
 use mathlib.Core.List.{List}
-use Prim.Native.Nat.{ℕ, _+_, _*_, _≤_, _<_}
+use Prim.Native.Nat.{ℕ, _+_, _-_, _/_, _%_, _≤_, _<_}
 use lib.ListN.{length, getD}
 use Rattle.format.specs.Answer.{Answer, ok, refused, ReservedFactId, FactRefPredicate}
 use Rattle.format.specs.Tree.{Ty, Tys, Alts, Val, Vals}
 use Rattle.format.specs.Sheet.{fieldCount, altCount, valCount}
-use Rattle.format.specs.TypeSheet.{nesting, nestings, altNestings, maxGroups}
-use Rattle.format.specs.ValueSheet.{maxValueWords}
+use Rattle.format.specs.TypeSheet.{nesting, nestings, altNestings, maxGroups, maxTypeWords}
+use Rattle.format.specs.ValueSheet.{maxValueWords, Proper, AllProper}
 use Rattle.format.specs.Scalar.{predicateOf}
-use Rattle.format.specs.Encode.{valBytes, valsBytes, fits, fitsAll, fitsRef, inUnion, fine}
+use Rattle.format.specs.Encode.{fits, fitsAll, fitsRef, inUnion, fine}
 use Rattle.format.proofs.TypePlaces.{TypeIn, TypesIn, AltsIn}
 use Rattle.format.proofs.ValuePlaces.{ValueIn, ValuesIn}
-use Rattle.fit.specs.declared.Fit.{Fit}
+
+-- ---- one word
+
+-- 2^32 places, details or numbers; refusals from 2^63 on
+abbrev pub places : ℕ
+places = 4294967296
+
+abbrev pub refusals : ℕ
+refusals = 9223372036854775808
+
+-- the low half: a place in the type, or a refusal's detail
+unfoldable pub lowOf : ℕ → ℕ
+lowOf r = r % places
+
+-- the high half: a place in the words, or 2^31 and a refusal's number
+unfoldable pub wordAt : ℕ → ℕ
+wordAt r = r / places
+
+unfoldable pub numberOf : ℕ → ℕ
+numberOf r = r / places - 2147483648
+
+-- a walk that stands there
+pub record Stands (t w r : ℕ) : Type 0 where
+  pub low : r < refusals
+  pub word : wordAt r ≡ w
+  pub place : t < places → lowOf r ≡ t
+
+pub record Refuses (m d r : ℕ) : Type 0 where
+  pub high : refusals ≤ r
+  pub number : numberOf r ≡ m
+  pub detail : d < places → lowOf r ≡ d
 
 -- ---- places
 
--- the places lie within a sheet of admitted size, and the length is bounded by what was passed
-pub record Ready (words pool : List ℕ) (s : Fit) : Type 0 where
-  pub word-in : s .word ≤ length words
-  pub pool-in : s .pool ≤ length pool
-  pub short : s .len ≤ 6 * s .word + 2 * s .pool
+-- the place lies within sheets of admitted size
+pub record Ready (ty words : List ℕ) (w : ℕ) : Type 0 where
+  pub word-in : w ≤ length words
   pub few : length words ≤ maxValueWords
-  pub small : length pool ≤ maxValueWords
+  pub small : length ty ≤ maxTypeWords
 
--- the same behind what was passed, not before w
-pub record Onward (words pool : List ℕ) (w : ℕ) (r : Fit) : Type 0 where
-  pub on : w ≤ r .word
-  pub word-in : r .word ≤ length words
-  pub pool-in : r .pool ≤ length pool
-  pub short : r .len ≤ 6 * r .word + 2 * r .pool
-
--- a walk that stands there, nothing refused
-abbrev pub standing : (ty word pool len left : ℕ) → Fit
-standing ty word pool len left = record { ty = ty; word = word; pool = pool; len = len; left = left; no = 0; detail = 0 }
-
--- a refusal keeps the places
-abbrev pub refusing : Fit → ℕ → ℕ → Fit
-refusing s n d = record { ty = s .ty; word = s .word; pool = s .pool; len = s .len; left = s .left; no = n; detail = d }
+-- a walk that is not refused stands within the words, not before w
+pub record Onward (words : List ℕ) (w r : ℕ) : Type 0 where
+  pub onward : r < refusals → (w ≤ wordAt r) × (wordAt r ≤ length words)
 
 -- ---- answers
 
--- it fits: the walk stands at the ends of type, words and pool, with the length n
-pub record Good (n e f g : ℕ) (r : Fit) : Type 0 where
-  pub none : r .no ≡ 0
-  pub at-ty : r .ty ≡ e
-  pub at-word : r .word ≡ f
-  pub at-pool : r .pool ≡ g
-  pub long : r .len ≡ n
+-- it fits: the walk stands at the ends of type and words
+pub record Good (e f r : ℕ) : Type 0 where
+  pub low : r < refusals
+  pub at-ty : lowOf r ≡ e
+  pub at-word : wordAt r ≡ f
 
 -- it is refused
-pub record Bad (m d : ℕ) (r : Fit) : Type 0 where
-  pub number : r .no ≡ m
-  pub detail : r .detail ≡ d
-  pub some : 0 < m
+pub record Bad (m d r : ℕ) : Type 0 where
+  pub high : refusals ≤ r
+  pub number : numberOf r ≡ m
+  pub detail : lowOf r ≡ d
 
-abbrev pub Gives : Answer Unit → (n e f g : ℕ) → Fit → Type 0
-Gives (ok u) n e f g r = Good n e f g r
-Gives (refused m d) n e f g r = Bad m d r
+abbrev pub Gives : Answer Unit → (e f r : ℕ) → Type 0
+Gives (ok u) e f r = Good e f r
+Gives (refused m d) e f r = Bad m d r
 
 -- where the end is known, it is e; 0 stands for an unknown end
 abbrev pub Known : (end e : ℕ) → Type 0
@@ -67,24 +82,20 @@ Known end e = (end ≡ 0 → ⊥) → e ≡ end
 pub record Handed (end behind r : ℕ) : Type 0 where
   pub handed : (r ≡ 0 → ⊥) → (r ≡ end) × (behind ≡ 0)
 
--- whatever type and value stand at the places, r says whether the value fits, and its length added to len
-pub record One (ty words pool : List ℕ) (depth end t w p len : ℕ) (r : Fit) : Type 0 where
-  pub one : (T : Ty) (v : Val) (e f g : ℕ) → TypeIn ty t T e → Known end e → nesting T ≤ maxGroups → ValueIn words pool w p v f g
-      → Gives (fits T depth v) (len + length (valBytes depth v)) e f g r
+-- whatever type and value stand at the places, r says whether the value fits
+pub record One (ty words : List ℕ) (depth end t w r : ℕ) : Type 0 where
+  pub one : (T : Ty) (v : Val) (pool : List ℕ) (p e f g : ℕ) → TypeIn ty t T e → Known end e → nesting T ≤ maxGroups → ValueIn words pool w p v f g → Proper v → Gives (fits T depth v) e f r
 
 -- and whatever n types and n values in a row
-pub record Row (ty words pool : List ℕ) (depth end n t w p len : ℕ) (r : Fit) : Type 0 where
-  pub row : (ts : Tys) (vs : Vals) (e f g : ℕ) → n ≡ fieldCount ts → n ≡ valCount vs → TypesIn ty t ts e → Known end e → nestings ts ≤ maxGroups → ValuesIn words pool w p vs f g
-      → Gives (fitsAll ts depth vs) (len + length (valsBytes depth vs)) e f g r
+pub record Row (ty words : List ℕ) (depth end n t w r : ℕ) : Type 0 where
+  pub row : (ts : Tys) (vs : Vals) (pool : List ℕ) (p e f g : ℕ) → n ≡ fieldCount ts → n ≡ valCount vs → TypesIn ty t ts e → Known end e → nestings ts ≤ maxGroups → ValuesIn words pool w p vs f g → AllProper vs
+      → Gives (fitsAll ts depth vs) e f r
+
+-- whatever type and value stand at the places t and w, the value fits, and they end at t′ and w′
+pub record Step (ty words : List ℕ) (depth end t w t′ w′ : ℕ) : Type 0 where
+  pub step : (T : Ty) (v : Val) (pool : List ℕ) (p e f g : ℕ) → TypeIn ty t T e → Known end e → nesting T ≤ maxGroups → ValueIn words pool w p v f g → Proper v → (fits T depth v ≡ fine) × (t′ ≡ e) × (w′ ≡ f)
 
 -- ---- what each walk promises
-
--- what the rest from r on says, it says of the whole from s on
-pub record Passed (ty words pool : List ℕ) (s r : Fit) : Type 0 where
-  pub onward : Onward words pool (s .word) r
-  pub none : r .no ≡ 0
-  pub fewer : r .left ≤ s .left
-  pub so-far : (depth end : ℕ) (e : Fit) → Row ty words pool depth end (r .left) (r .ty) (r .word) (r .pool) (r .len) e → Row ty words pool depth end (s .left) (s .ty) (s .word) (s .pool) (s .len) e
 
 -- the refusal of a reference by its number, 0 for none
 pub record RefSays (predicate raw n : ℕ) : Type 0 where
@@ -92,22 +103,26 @@ pub record RefSays (predicate raw n : ℕ) : Type 0 where
   pub reserved : n ≡ ReservedFactId → fitsRef predicate raw ≡ refused ReservedFactId 0
   pub other : (n ≡ 0 → ⊥) → (n ≡ ReservedFactId → ⊥) → fitsRef predicate raw ≡ refused FactRefPredicate (predicateOf raw)
 
+-- how many words the type has of a value that is no group and fits; 0 says nothing
+pub record Plain (ty words : List ℕ) (t w n : ℕ) : Type 0 where
+  pub type-in : (n ≡ 0 → ⊥) → t + n ≤ length ty
+  pub word-in : (n ≡ 0 → ⊥) → w + 2 ≤ length words
+  pub says : (n ≡ 0 → ⊥) → (depth end : ℕ) → Step ty words depth end t w (t + n) (w + 2)
+
 -- a value that is no group, of its type's kind k and with the second word x
-pub record FitScalar (ty words pool : List ℕ) (s : Fit) (k x : ℕ) (r : Fit) : Type 0 where
-  pub onward : Onward words pool (s .word) r
-  pub says : k ≡ getD ty (s .ty) 0 → getD words (s .word) 0 ≡ k → x ≡ getD words (s .word + 1) 0 → k < 5 → (depth end : ℕ) → One ty words pool depth end (s .ty) (s .word) (s .pool) (s .len) r
+pub record FitScalar (ty words : List ℕ) (t w k x r : ℕ) : Type 0 where
+  pub onward : Onward words w r
+  pub says : k ≡ getD ty t 0 → getD words w 0 ≡ k → x ≡ getD words (w + 1) 0 → k < 5 → (depth end : ℕ) → One ty words depth end t w r
 
 -- what a union makes of its payload's answer, with `left` alternatives behind the payload's type
-pub record Closed (ty : List ℕ) (tag left end : ℕ) (s r : Fit) : Type 0 where
-  pub word : r .word ≡ s .word
-  pub pool : r .pool ≡ s .pool
-  pub len : r .len ≡ s .len
-  pub says : (a : Answer Unit) (n m f g : ℕ) (us : Alts) (e : ℕ) → Gives a n m f g s → AltsIn ty m us e → Known end e → altCount us ≡ left → altNestings us ≤ maxGroups → Gives (inUnion tag a) n e f g r
+pub record Closed (ty : List ℕ) (tag left end s r : ℕ) : Type 0 where
+  pub word : r < refusals → (s < refusals) × (wordAt r ≡ wordAt s)
+  pub says : (a : Answer Unit) (m f : ℕ) (us : Alts) (e : ℕ) → Gives a m f s → AltsIn ty m us e → Known end e → altCount us ≡ left → altNestings us ≤ maxGroups → tag < places → Gives (inUnion tag a) e f r
 
-pub record FitValue (ty words pool : List ℕ) (s : Fit) (depth end : ℕ) (r : Fit) : Type 0 where
-  pub onward : Onward words pool (s .word) r
-  pub says : One ty words pool depth end (s .ty) (s .word) (s .pool) (s .len) r
+pub record FitValue (ty words : List ℕ) (t w depth end r : ℕ) : Type 0 where
+  pub onward : Onward words w r
+  pub says : One ty words depth end t w r
 
-pub record FitFields (ty words pool : List ℕ) (s : Fit) (depth end : ℕ) (r : Fit) : Type 0 where
-  pub onward : Onward words pool (s .word) r
-  pub says : Row ty words pool depth end (s .left) (s .ty) (s .word) (s .pool) (s .len) r
+pub record FitFields (ty words : List ℕ) (t w n depth end r : ℕ) : Type 0 where
+  pub onward : Onward words w r
+  pub says : Row ty words depth end n t w r

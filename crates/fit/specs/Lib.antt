@@ -1,2 +1,3 @@
 -- What the measuring walk promises.
 pub mod Fit
+pub mod Sum

@@ -1,54 +1,62 @@
-// The encoder's measuring walk: over a type and a value, without a buffer. It finds every refusal, or the length of the encoding.
+// The encoder's measuring walk: over a type and a value, without a buffer. It finds every refusal; the length of what fits is a sum over the words.
 ghost use mathlib.Core.Path.{_≡_};
 ghost use Prim.Native.Nat.{_+_, _*_, _-_, _≤_, _<_};
-ghost use lib.ListN.{length, getD};
+ghost use lib.ListN.{length, getD, drop};
 ghost use lib.Seq.{slice};
+ghost use Rattle.format.specs.TypeSheet.{maxTypeWords};
 ghost use Rattle.format.specs.ValueSheet.{maxValueWords};
-ghost use Rattle.format.proofs.PlainLaws.{plainPool, plainBytes};
-ghost use Rattle.fit.specs.Fit.{Ready, standing, refusing, Passed, RefSays, FitScalar, Handed, Closed, FitValue, FitFields};
+ghost use Rattle.fit.specs.Fit.{refusals, lowOf, wordAt, numberOf, Stands, Refuses, Ready, RefSays, Plain, FitScalar, Handed, Closed, FitValue, FitFields};
+ghost use Rattle.fit.specs.Sum.{runOf, itemLen, sumLen, Within};
 
-// How many sequences a predicate has: the low 32 bits of a reference are the sequence, the others the predicate.
-const SEQUENCES: u64 = 0x1_0000_0000;
+// How many places, details and numbers the halves of an answer can hold. The low 32 bits of a reference are its sequence, the others its predicate.
+const HALF: u64 = 0x1_0000_0000;
 
-// Where a walk stands in the type, the words and the pool, how long what it passed is encoded, how many fields are left, and a refusal with its detail (0: none).
-pub struct Fit {
-    pub ty: usize,
-    pub word: usize,
-    pub pool: usize,
-    pub len: usize,
-    pub left: u32,
-    pub no: u32,
-    pub detail: u64,
+// The answers from here on are refusals. One below is a place in the type in its low half and a place in the words in its high half.
+pub const REFUSED: u64 = 0x8000_0000_0000_0000;
+
+// The walk stands at these places.
+pub fn stand(t: usize, w: usize) -> u64
+    requires { ⌜ w ≤ maxValueWords ⌝ }
+    ensures { λ r. ⌜ Stands t w r ⌝ }
+{
+    (t as u64) % HALF + (w as u64) * HALF
 }
 
-// A walk that stands at these places.
-pub fn stand(ty: usize, word: usize, pool: usize, len: usize, left: u32) -> Fit
-    ensures { λ r. ⌜ r ≡ standing ty word pool len left ⌝ }
+// A refusal and its detail.
+pub fn refuse(no: u32, detail: u64) -> u64
+    requires { ⌜ no < 256 ⌝ }
+    ensures { λ r. ⌜ Refuses no detail r ⌝ }
 {
-    Fit {
-        ty,
-        word,
-        pool,
-        len,
-        left,
-        no: 0,
-        detail: 0,
-    }
+    REFUSED + wide(no) * HALF + detail % HALF
 }
 
-// A refusal. It keeps the places.
-pub fn refuse(s: Fit, no: u32, detail: u64) -> Fit
-    ensures { λ r. ⌜ r ≡ refusing s no detail ⌝ }
+// The place in the type where an answer stands.
+fn place_of(r: u64) -> usize
+    ensures { λ n. ⌜ n ≡ lowOf r ⌝ }
 {
-    Fit {
-        ty: s.ty,
-        word: s.word,
-        pool: s.pool,
-        len: s.len,
-        left: s.left,
-        no,
-        detail,
-    }
+    (r % HALF) as usize
+}
+
+// The place in the words.
+fn word_of(r: u64) -> usize
+    ensures { λ n. ⌜ n ≡ wordAt r ⌝ }
+{
+    (r / HALF) as usize
+}
+
+// A refusal's number.
+pub fn number_of(r: u64) -> u32
+    requires { ⌜ refusals ≤ r ⌝ }
+    ensures { λ n. ⌜ n ≡ numberOf r ⌝ }
+{
+    ((r - REFUSED) / HALF) as u32
+}
+
+// A refusal's detail.
+pub fn detail_of(r: u64) -> u64
+    ensures { λ n. ⌜ n ≡ lowOf r ⌝ }
+{
+    r % HALF
 }
 
 fn wide(x: u32) -> u64
@@ -64,123 +72,68 @@ fn word_at(words: &[u64], i: usize) -> u64
     if i < words.len() { words[i] } else { 0 }
 }
 
-// How many bytes of the pool a value takes that is no group: a run's length.
-fn run_of(kind: u32, x: u64) -> usize
-    ensures { λ r. ⌜ r ≡ plainPool kind x ⌝ }
-{
-    if kind == format::KIND_INT {
-        return 0;
-    }
-    if kind == format::KIND_FACT {
-        return 0;
-    }
-    x as usize
-}
-
-// How long a value is that is no group, with its bytes of the pool from p up to e.
-fn plain_len(kind: u32, x: u64, pool: &[u8], p: usize, e: usize) -> usize
-    requires { ⌜ (p ≤ e) × (e ≤ length (now pool)) × (length (now pool) ≤ maxValueWords) ⌝ }
-    ensures { λ r. ⌜ (r ≡ length (plainBytes kind x (slice p e (now (pool .entry))))) × (r ≤ 12 + 2 * (e - p)) ⌝ }
-{
-    if kind == format::KIND_INT {
-        return scalar::ints::int_len(x);
-    }
-    if kind == format::KIND_FACT {
-        return format::FACT_REF_FIELD_LEN;
-    }
-    1 + scalar::runs::run_len(pool, p, e)
-}
-
 // What refuses a reference under a declared predicate: sequence 0, then another predicate; 0 where nothing does.
 fn ref_refusal(predicate: u32, raw: u64) -> u32
     ensures { λ r. ⌜ RefSays predicate raw r ⌝ }
 {
-    if raw % SEQUENCES == 0 {
+    if raw % HALF == 0 {
         return format::RESERVED_FACT_ID;
     }
-    if raw / SEQUENCES == wide(predicate) {
+    if raw / HALF == wide(predicate) {
         return 0;
     }
     format::FACT_REF_PREDICATE
 }
 
-// The fields from a place on that are no groups and fit, up to the first that is not passed so. It never refuses: the value walker does.
-pub fn fit_plain(ty: &[u32], words: &[u64], pool: &[u8], s: Fit) -> Fit
-    requires { ⌜ Ready (now words) (now pool) s ⌝ }
-    ensures { λ r. ⌜ Passed (now (ty .entry)) (now (words .entry)) (now (pool .entry)) s r ⌝ }
+// How many words the type has of a value that is no group and fits; 0 for any other. It never refuses: the value walker does.
+fn plain(ty: &[u32], words: &[u64], t: usize, w: usize) -> usize
+    requires { ⌜ w ≤ length (now words) ⌝ }
+    ensures { λ r. ⌜ Plain (now (ty .entry)) (now (words .entry)) t w r ⌝ }
 {
-    let mut t = s.ty;
-    let mut w = s.word;
-    let mut p = s.pool;
-    let mut len = s.len;
-    let mut left = s.left;
-    while 0 < left {
-        if ty.len() <= t {
-            return stand(t, w, p, len, left);
-        }
-        if words.len() - w < 2 {
-            return stand(t, w, p, len, left);
-        }
-        let kind = ty[t];
-        if words[w] != wide(kind) {
-            return stand(t, w, p, len, left);
-        }
-        let x = words[w + 1];
-        if kind < format::KIND_FACT {
-            let n = run_of(kind, x);
-            if pool.len() - p < n {
-                return stand(t, w, p, len, left);
-            }
-            len += plain_len(kind, x, pool, p, p + n);
-            t += 1;
-            w += 2;
-            p += n;
-            left -= 1;
-        } else if kind == format::KIND_FACT {
-            if ty.len() - t < 2 {
-                return stand(t, w, p, len, left);
-            }
-            if ref_refusal(ty[t + 1], x) != 0 {
-                return stand(t, w, p, len, left);
-            }
-            len += format::FACT_REF_FIELD_LEN;
-            t += 2;
-            w += 2;
-            left -= 1;
-        } else {
-            return stand(t, w, p, len, left);
-        }
+    if ty.len() <= t {
+        return 0;
     }
-    stand(t, w, p, len, left)
+    if words.len() - w < 2 {
+        return 0;
+    }
+    let kind = ty[t];
+    if words[w] != wide(kind) {
+        return 0;
+    }
+    if kind < format::KIND_FACT {
+        return 1;
+    }
+    if kind != format::KIND_FACT {
+        return 0;
+    }
+    if ty.len() - t < 2 {
+        return 0;
+    }
+    if ref_refusal(ty[t + 1], words[w + 1]) != 0 {
+        return 0;
+    }
+    2
 }
 
 // A value that is no group, of its type's kind and with the second word x.
-fn fit_scalar(ty: &[u32], words: &[u64], pool: &[u8], s: Fit, kind: u32, x: u64) -> Fit
-    requires { ⌜ Ready (now words) (now pool) s × (s .ty < length (now ty)) × (s .word + 2 ≤ length (now words)) ⌝ }
-    ensures { λ r. ⌜ FitScalar (now (ty .entry)) (now (words .entry)) (now (pool .entry)) s kind x r ⌝ }
+fn fit_scalar(ty: &[u32], words: &[u64], t: usize, w: usize, kind: u32, x: u64) -> u64
+    requires { ⌜ Ready (now ty) (now words) w × (t < length (now ty)) × (w + 2 ≤ length (now words)) ⌝ }
+    ensures { λ r. ⌜ FitScalar (now (ty .entry)) (now (words .entry)) t w kind x r ⌝ }
 {
-    let t = s.ty;
-    let w = s.word;
-    let p = s.pool;
-    if kind == format::KIND_FACT {
-        if ty.len() - t < 2 {
-            return refuse(s, format::BAD_TYPE, 0);
-        }
-        let no = ref_refusal(ty[t + 1], x);
-        if no == 0 {
-            return stand(t + 2, w + 2, p, s.len + format::FACT_REF_FIELD_LEN, 0);
-        }
-        if no == format::RESERVED_FACT_ID {
-            return refuse(s, format::RESERVED_FACT_ID, 0);
-        }
-        return refuse(s, format::FACT_REF_PREDICATE, x / SEQUENCES);
+    if kind != format::KIND_FACT {
+        return stand(t + 1, w + 2);
     }
-    let n = run_of(kind, x);
-    if pool.len() - p < n {
-        return refuse(s, format::BAD_VALUE, 0);
+    if ty.len() - t < 2 {
+        return refuse(format::BAD_TYPE, 0);
     }
-    let more = plain_len(kind, x, pool, p, p + n);
-    stand(t + 1, w + 2, p + n, s.len + more, 0)
+    let no = ref_refusal(ty[t + 1], x);
+    if no == 0 {
+        return stand(t + 2, w + 2);
+    }
+    if no == format::RESERVED_FACT_ID {
+        return refuse(format::RESERVED_FACT_ID, 0);
+    }
+    refuse(format::FACT_REF_PREDICATE, x / HALF)
 }
 
 // The end of a part of a row that ends at `end`: the row's where nothing is behind it, 0 for unknown where something is.
@@ -191,92 +144,161 @@ fn handed(end: usize, behind: u32) -> usize
 }
 
 // What a union makes of its payload's answer: the end of its alternatives, `known` where that is not 0; or the refusal, BadRecord and TypeMismatch as BadUnion with the tag.
-fn close_union(ty: &[u32], s: Fit, tag: u64, left: u32, known: usize) -> Fit
-    ensures { λ r. ⌜ Closed (now (ty .entry)) tag left known s r ⌝ }
+fn close_union(ty: &[u32], r: u64, tag: u64, left: u32, known: usize) -> u64
+    requires { ⌜ (length (now ty) ≤ maxTypeWords) × (r < refusals → wordAt r ≤ maxValueWords) ⌝ }
+    ensures { λ n. ⌜ Closed (now (ty .entry)) tag left known r n ⌝ }
 {
-    let no = s.no;
-    if no == 0 {
+    if r < REFUSED {
         if known != 0 {
-            return stand(known, s.word, s.pool, s.len, 0);
+            return stand(known, word_of(r));
         }
-        let end = sheet::skip_alternatives(ty, s.ty, left);
-        return stand(end, s.word, s.pool, s.len, 0);
+        let end = sheet::skip_alternatives(ty, place_of(r), left);
+        return stand(end, word_of(r));
     }
+    let no = number_of(r);
     if no == format::BAD_RECORD {
-        return refuse(s, format::BAD_UNION, tag);
+        return refuse(format::BAD_UNION, tag);
     }
     if no == format::TYPE_MISMATCH {
-        return refuse(s, format::BAD_UNION, tag);
+        return refuse(format::BAD_UNION, tag);
     }
-    s
+    r
 }
 
 // A value under its type, which ends at `end`, or somewhere where that is 0.
-pub fn fit_value(ty: &[u32], words: &[u64], pool: &[u8], s: Fit, depth: u32, end: usize) -> Fit
-    requires { ⌜ Ready (now words) (now pool) s ⌝ }
-    ensures { λ r. ⌜ FitValue (now (ty .entry)) (now (words .entry)) (now (pool .entry)) s depth end r ⌝ }
+pub fn fit_value(ty: &[u32], words: &[u64], t: usize, w: usize, depth: u32, end: usize) -> u64
+    requires { ⌜ Ready (now ty) (now words) w ⌝ }
+    ensures { λ r. ⌜ FitValue (now (ty .entry)) (now (words .entry)) t w depth end r ⌝ }
 {
-    let t = s.ty;
-    let w = s.word;
     if ty.len() <= t {
-        return refuse(s, format::BAD_TYPE, 0);
+        return refuse(format::BAD_TYPE, 0);
     }
     let kind = ty[t];
     if word_at(words, w) != wide(kind) {
-        return refuse(s, format::TYPE_MISMATCH, wide(kind));
+        return refuse(format::TYPE_MISMATCH, wide(kind));
     }
     if words.len() - w < 2 {
-        return refuse(s, format::BAD_VALUE, 0);
+        return refuse(format::BAD_VALUE, 0);
     }
     let x = words[w + 1];
     if kind < format::KIND_RECORD {
-        return fit_scalar(ty, words, pool, s, kind, x);
+        return fit_scalar(ty, words, t, w, kind, x);
     }
     if kind == format::KIND_RECORD {
         if ty.len() - t < 2 {
-            return refuse(s, format::BAD_TYPE, 0);
+            return refuse(format::BAD_TYPE, 0);
         }
         let count = ty[t + 1];
         if x != wide(count) {
-            return refuse(s, format::BAD_RECORD, 0);
+            return refuse(format::BAD_RECORD, 0);
         }
         if format::MAX_RECORD_DEPTH <= depth {
-            return refuse(s, format::BAD_RECORD, 0);
+            return refuse(format::BAD_RECORD, 0);
         }
-        let fields = stand(t + 2, w + 2, s.pool, s.len + 2, count);
-        return fit_fields(ty, words, pool, fields, depth + 1, end);
+        return fit_fields(ty, words, t + 2, w + 2, count, depth + 1, end);
     }
     let choice = sheet::alternative(ty, t, x);
     let place = choice.place;
     if place == 0 {
-        return refuse(s, format::UNKNOWN_DISCRIMINANT, x);
+        return refuse(format::UNKNOWN_DISCRIMINANT, x);
     }
     if format::MAX_RECORD_DEPTH <= depth {
-        return refuse(s, format::BAD_UNION, x);
+        return refuse(format::BAD_UNION, x);
     }
-    let len = s.len + 2 + scalar::ints::uint_len(x);
-    let inner = stand(place, w + 2, s.pool, len, 0);
     let left = choice.left;
-    let r = fit_value(ty, words, pool, inner, depth + 1, handed(end, left));
+    let r = fit_value(ty, words, place, w + 2, depth + 1, handed(end, left));
     close_union(ty, r, x, left, end)
 }
 
-// The fields of a record, whose types end at `end`, or somewhere where that is 0.
-pub fn fit_fields(ty: &[u32], words: &[u64], pool: &[u8], s: Fit, depth: u32, end: usize) -> Fit
-    requires { ⌜ Ready (now words) (now pool) s ⌝ }
-    ensures { λ r. ⌜ FitFields (now (ty .entry)) (now (words .entry)) (now (pool .entry)) s depth end r ⌝ }
+// The n fields of a record from these places on, whose types end at `end`, or somewhere where that is 0.
+pub fn fit_fields(
+    ty: &[u32],
+    words: &[u64],
+    at: usize,
+    from: usize,
+    n: u32,
+    depth: u32,
+    end: usize,
+) -> u64
+    requires { ⌜ Ready (now ty) (now words) from ⌝ }
+    ensures { λ r. ⌜ FitFields (now (ty .entry)) (now (words .entry)) at from n depth end r ⌝ }
 {
-    let mut here = s;
-    loop {
-        let r = fit_plain(ty, words, pool, here);
-        let left = r.left;
-        if left == 0 {
-            return r;
+    let mut t = at;
+    let mut w = from;
+    let mut left = n;
+    while 0 < left {
+        let m = plain(ty, words, t, w);
+        if m == 0 {
+            let r = fit_value(ty, words, t, w, depth, handed(end, left - 1));
+            if REFUSED <= r {
+                return r;
+            }
+            t = place_of(r);
+            w = word_of(r);
+            left -= 1;
+        } else {
+            t += m;
+            w += 2;
+            left -= 1;
         }
-        let g = fit_value(ty, words, pool, r, depth, handed(end, left - 1));
-        if g.no != 0 {
-            return g;
-        }
-        here = stand(g.ty, g.word, g.pool, g.len, left - 1);
     }
+    stand(t, w)
+}
+
+// How many bytes of the pool a value has itself, at most those that are left.
+fn run_of(kind: u64, x: u64, room: usize) -> usize
+    ensures { λ r. ⌜ Within (runOf kind x) room r ⌝ }
+{
+    if kind == 2 {
+        return least(x, room);
+    }
+    if kind == 3 {
+        return least(x, room);
+    }
+    0
+}
+
+fn least(n: u64, room: usize) -> usize
+    ensures { λ r. ⌜ Within n room r ⌝ }
+{
+    if n <= room as u64 { n as usize } else { room }
+}
+
+// How long a value is without what it holds, its bytes of the pool from p up to e.
+fn item_len(kind: u64, x: u64, pool: &[u8], p: usize, e: usize) -> usize
+    requires { ⌜ (p ≤ e) × (e ≤ length (now pool)) × (length (now pool) ≤ maxValueWords) ⌝ }
+    ensures { λ r. ⌜ (r ≡ itemLen kind x (slice p e (now (pool .entry)))) × (r ≤ 12 + 2 * (e - p)) ⌝ }
+{
+    if kind == 1 {
+        return scalar::ints::int_len(x);
+    }
+    if kind == 4 {
+        return format::FACT_REF_FIELD_LEN;
+    }
+    if kind == 5 {
+        return 2;
+    }
+    if kind == 6 {
+        return 2 + scalar::ints::uint_len(x);
+    }
+    1 + scalar::runs::run_len(pool, p, e)
+}
+
+// How long the encoding is of what stands in the words from a place on, and fits, with its bytes in the pool.
+pub fn encoded_len(words: &[u64], pool: &[u8], from: usize) -> usize
+    requires { ⌜ (from ≤ length (now words)) × (length (now words) ≤ maxValueWords) × (length (now pool) ≤ maxValueWords) ⌝ }
+    ensures { λ r. ⌜ (r ≡ sumLen (drop from (now (words .entry))) (now (pool .entry))) × (r ≤ 6 * length (now (words .entry)) + 2 * length (now (pool .entry))) ⌝ }
+{
+    let mut w = from;
+    let mut p: usize = 0;
+    let mut len: usize = 0;
+    while 2 <= words.len() - w {
+        let kind = words[w];
+        let x = words[w + 1];
+        let n = run_of(kind, x, pool.len() - p);
+        len += item_len(kind, x, pool, p, p + n);
+        p += n;
+        w += 2;
+    }
+    len
 }

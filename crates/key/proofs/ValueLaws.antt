@@ -5,7 +5,6 @@ use mathlib.Core.Option.{Option, some, none}
 use mathlib.Core.List.{List, [], _++_}
 use Prim.Native.Nat.{ℕ, _+_, _-_, _≤_, _<_, _^_}
 use native.Mathlib.Omega.{arith}
-use native.Mathlib.Nat.{zero-add}
 use lib.Dec.{ltb, leb}
 use lib.ListN.{length, take, drop}
 use Rattle.format.specs.Answer.{if, Answer, ok, refused, andThen, BadValue, NoRoom, KeyTooLong}
@@ -18,8 +17,9 @@ use Rattle.format.proofs.Tests.{leb-yes, leb-no, ltb-yes}
 use Rattle.format.proofs.TypePlaces.{TypeIn}
 use Rattle.format.proofs.ValuePlaces.{ValueIn, top}
 use Rattle.format.proofs.ValueLaws as values
-use Rattle.fit.specs.declared.Fit.{Fit}
-use Rattle.fit.specs.Fit.{Good, Bad, Gives, One}
+use Rattle.fit.specs.Fit.{refusals, numberOf, lowOf, Good, Bad, Gives, One}
+use Rattle.fit.specs.Sum.{sumLen}
+use Rattle.fit.proofs.Sums.{whole-sum}
 use Rattle.key.specs.declared.replacing.Replaced.{Replaced}
 use Rattle.key.specs.declared.replacing.Replaced.the-variants as replacing
 use Rattle.key.specs.Keys.{ReplaceLeft, ValueStands, Puts, Splices, with, put}
@@ -40,7 +40,7 @@ module _ (ty : List ℕ) (at : ℕ) (buffer : List ℕ) (used start end : ℕ) (
   pub v-bad : isSome (valueOf words pool) ≡ false → ValueStands ty at buffer used start end words pool (replacing.Refused BadValue 0) buffer
   v-bad h = record { stands = λ t e i d. rw (no-value words pool h) (record { answer = refl; left = refl }) }
 
-  module _ (adm : isSome (valueOf words pool) ≡ true) (r : Fit) (f : One ty words pool 0 0 at 0 0 0 r) where
+  module _ (adm : isSome (valueOf words pool) ≡ true) (r : ℕ) (f : One ty words 0 0 at 0 r) where
     -- the value, and what the walk says of it under a type
     abbrev the-value : Val
     the-value = values.its-tree words pool adm .0
@@ -52,10 +52,10 @@ module _ (ty : List ℕ) (at : ℕ) (buffer : List ℕ) (used start end : ℕ) (
     it-stands = top words pool the-value (values.its-tree words pool adm .1)
 
     abbrev Says : Ty → ℕ → Type 0
-    Says t e = Gives (fits t 0 the-value) (0 + length (valBytes 0 the-value)) e (length words) (length pool) r
+    Says t e = Gives (fits t 0 the-value) e (length words) r
 
     says : (t : Ty) (e : ℕ) → TypeIn ty at t e → nesting t ≤ maxGroups → Says t e
-    says t e i d = f .one t the-value e (length words) (length pool) i (λ z. absurd (z refl)) d it-stands
+    says t e i d = f .one t the-value pool 0 e (length words) (length pool) i (λ z. absurd (z refl)) d it-stands (values.its-tree words pool adm .1 .proper)
 
     -- the call with the value's encoding
     abbrev Call : Ty → Called ℕ
@@ -67,46 +67,50 @@ module _ (ty : List ℕ) (at : ℕ) (buffer : List ℕ) (used start end : ℕ) (
     by-call : (a : Replaced) (buffer′ : List ℕ) → ((t : Ty) (e : ℕ) → TypeIn ty at t e → nesting t ≤ maxGroups → ReplaceLeft (Call t) a buffer′) → ValueStands ty at buffer used start end words pool a buffer′
     by-call a buffer′ g = record { stands = λ t e i d. subst (λ (c : Called ℕ). ReplaceLeft c a buffer′) (sym (call-is t)) (g t e i d) }
 
-    pub v-refused : (r .no ≡ 0 → ⊥) → ValueStands ty at buffer used start end words pool (replacing.Refused (r .no) (r .detail)) buffer
+    pub v-refused : refusals ≤ r → ValueStands ty at buffer used start end words pool (replacing.Refused (numberOf r) (lowOf r)) buffer
     unfolding encode
     v-refused q = by-call _ _ (λ t e i d. go t e (fits t 0 the-value) refl (says t e i d))
       where
-        go : (t : Ty) (e : ℕ) (a : Answer Unit) → fits t 0 the-value ≡ a → Gives a (0 + length (valBytes 0 the-value)) e (length words) (length pool) r → ReplaceLeft (Call t) (replacing.Refused (r .no) (r .detail)) buffer
-        go t e (ok u) m g = absurd (q (g .none))
+        go : (t : Ty) (e : ℕ) (a : Answer Unit) → fits t 0 the-value ≡ a → Gives a e (length words) r → ReplaceLeft (Call t) (replacing.Refused (numberOf r) (lowOf r)) buffer
+        go t e (ok u) m g = absurd (omega (arith, g .low))
         go t e (refused n d) m g = rw (m, g .number, g .detail) (record { answer = refl; left = refl })
 
-    -- it fits, and has that length
-    fitting : r .no ≡ 0 → (t : Ty) (e : ℕ) → TypeIn ty at t e → nesting t ≤ maxGroups → (fits t 0 the-value ≡ fine) × (r .len ≡ length (valBytes 0 the-value))
+    -- it fits
+    fitting : r < refusals → (t : Ty) (e : ℕ) → TypeIn ty at t e → nesting t ≤ maxGroups → fits t 0 the-value ≡ fine
     fitting q t e i d = go (fits t 0 the-value) refl (says t e i d)
       where
-        go : (a : Answer Unit) → fits t 0 the-value ≡ a → Gives a (0 + length (valBytes 0 the-value)) e (length words) (length pool) r → (fits t 0 the-value ≡ fine) × (r .len ≡ length (valBytes 0 the-value))
-        go (ok u) m g = (m, g .long ∙ zero-add (length (valBytes 0 the-value)))
-        go (refused n d) m g = absurd (omega (arith, g .number, g .some))
+        go : (a : Answer Unit) → fits t 0 the-value ≡ a → Gives a e (length words) r → fits t 0 the-value ≡ fine
+        go (ok u) m g = m
+        go (refused n d) m g = absurd (omega (arith, g .high))
 
-    module _ (q : r .no ≡ 0) (len : ℕ) (el : len ≡ start + r .len + (used - end)) (pe : start ≤ end) (eu : end ≤ used) (ub : used ≤ length buffer) where
+    module _ (q : r < refusals) (n : ℕ) (kn : n ≡ sumLen (drop 0 words) pool) (len : ℕ) (el : len ≡ start + n + (used - end)) (pe : start ≤ end) (eu : end ≤ used) (ub : used ≤ length buffer) where
+      -- the value's length
+      value-long : (t : Ty) (e : ℕ) → TypeIn ty at t e → nesting t ≤ maxGroups → n ≡ length (valBytes 0 the-value)
+      value-long t e i d = kn ∙ whole-sum words pool t 0 the-value it-stands (fitting q t e i d)
+
       -- the new key's length
       new-long : (t : Ty) (e : ℕ) → TypeIn ty at t e → nesting t ≤ maxGroups → length (with (take used buffer) start end (valBytes 0 the-value)) ≡ len
       new-long t e i d =
-          let w = fitting q t e i d .1 in
-          whole-long buffer (valBytes 0 the-value) start end used pe eu ub ∙ ap (λ (n : ℕ). start + n + (used - end)) (sym w) ∙ sym el
+          let w = value-long t e i d in
+          whole-long buffer (valBytes 0 the-value) start end used pe eu ub ∙ ap (λ (m : ℕ). start + m + (used - end)) (sym w) ∙ sym el
 
       pub v-long : maxKeyBytes < len → ValueStands ty at buffer used start end words pool (replacing.Refused KeyTooLong len) buffer
       unfolding encode
       v-long h = by-call _ _ (λ t e i d.
-          let n = new-long t e i d in
-          rw (fitting q t e i d .0, n, leb-no len maxKeyBytes h) (record { answer = refl; left = refl }))
+          let l = new-long t e i d in
+          rw (fitting q t e i d, l, leb-no len maxKeyBytes h) (record { answer = refl; left = refl }))
 
       module _ (short : len ≤ maxKeyBytes) where
         pub v-room : length buffer < len → ValueStands ty at buffer used start end words pool (replacing.Refused NoRoom len) buffer
         unfolding encode
         v-room h = by-call _ _ (λ t e i d.
-            let n = new-long t e i d in
-            rw (fitting q t e i d .0, n, leb-yes len maxKeyBytes short, n, leb-no len (length buffer) h, ltb-yes len (2 ^ 64) (omega arith)) (record { answer = refl; left = refl }))
+            let l = new-long t e i d in
+            rw (fitting q t e i d, l, leb-yes len maxKeyBytes short, l, leb-no len (length buffer) h, ltb-yes len (2 ^ 64) (omega arith)) (record { answer = refl; left = refl }))
 
-        pub v-done : len ≤ length buffer → (buffer′ : List ℕ) → Splices buffer used start end (r .len) words pool buffer′ → ValueStands ty at buffer used start end words pool (replacing.Done len) buffer′
+        pub v-done : len ≤ length buffer → (buffer′ : List ℕ) → Splices buffer used start end n words pool buffer′ → ValueStands ty at buffer used start end words pool (replacing.Done len) buffer′
         unfolding encode
         v-done h buffer′ s = by-call _ _ (λ t e i d.
-            let n = new-long t e i d in
+            let l = new-long t e i d in
             let g = fitting q t e i d in
-            let b = s .splices t the-value it-stands (g .0) (g .1) in
-            rw (g .0, n, leb-yes len maxKeyBytes short, n, leb-yes len (length buffer) h) (record { answer = refl; left = b ∙ ap (λ (m : ℕ). with (take used buffer) start end (valBytes 0 the-value) ++ drop m buffer) n }))
+            let b = s .splices t the-value it-stands g (value-long t e i d) in
+            rw (g, l, leb-yes len maxKeyBytes short, l, leb-yes len (length buffer) h) (record { answer = refl; left = b ∙ ap (λ (m : ℕ). with (take used buffer) start end (valBytes 0 the-value) ++ drop m buffer) l }))

@@ -2,6 +2,7 @@
 use crate::passing::Field;
 ghost use Prim.Native.Nat.{_≤_};
 ghost use lib.ListN.{length};
+ghost use Rattle.format.specs.TypeSheet.{maxTypeWords};
 ghost use Rattle.format.specs.Calls.{replaceCall};
 ghost use Rattle.key.specs.Keys.{ReplaceLeft, Puts, Splices, ValueStands};
 
@@ -39,18 +40,17 @@ fn put_field(
     words: &[u64],
     pool: &[u8],
 ) -> Replaced
-    requires { ⌜ (start ≤ end) × (end ≤ used) × (used ≤ length (now buffer)) ⌝ }
+    requires { ⌜ (start ≤ end) × (end ≤ used) × (used ≤ length (now buffer)) × (length (now ty) ≤ maxTypeWords) ⌝ }
     ensures { λ r. ⌜ ValueStands (now (ty .entry)) at (now (buffer .entry)) used start end (now (words .entry)) (now (pool .entry)) r (now (buffer .exit)) ⌝ }
 {
     if !sheet::admit_value(words, pool) {
         return Replaced::Refused(format::BAD_VALUE, 0);
     }
-    let r = fit::fit_value(ty, words, pool, fit::stand(at, 0, 0, 0, 0), 0, 0);
-    let no = r.no;
-    if no != 0 {
-        return Replaced::Refused(no, r.detail);
+    let r = fit::fit_value(ty, words, at, 0, 0, 0);
+    if fit::REFUSED <= r {
+        return Replaced::Refused(fit::number_of(r), fit::detail_of(r));
     }
-    let n = r.len;
+    let n = fit::encoded_len(words, pool, 0);
     let len = start + n + (used - end);
     if format::MAX_KEY_BYTES < len {
         return Replaced::Refused(format::KEY_TOO_LONG, len as u64);

@@ -1,6 +1,5 @@
 use mathlib.Core.Path.{_≡_, refl, sym, ap, _∙_}
 use native.Mathlib.Omega.{arith}
-use Rattle.fit.proofs.Leaves as leaves
 use Rattle.fit.proofs.Steps as laws
 use borrow.Author.Needs.{needs}
 use Rattle.fit.proofs.ref_refusal.Statement.{statement}

@@ -6,6 +6,7 @@ use lib.ListN.{length, getD}
 use lib.Seq.{length-take-le}
 use Rattle.format.proofs.Bytes.{bytes-before}
 use Rattle.format.proofs.SoundLaws.{all-bytes}
+use Rattle.format.proofs.TypeLaws as types
 use Rattle.key.proofs.CallLaws as laws
 use borrow.Author.Needs.{needs}
 use Rattle.key.proofs.replacing.replace.Statement.{statement}
@@ -74,7 +75,7 @@ enum-known-at c = search needs
 
 -- src/replacing.rt:91:38
 put-field-requires : tie.Need-put-field-requires
-put-field-requires c κs = let s = c .before .before .before .before .before .before .before .before .before .before .before .before .before .before .before .before .before in let a = s .args in let adm = sym (c .before .before .before .before .before .before .before .before .before .before .before .before .admit-type .ensures) ∙ not-false (c .before .before .before .before .before .before .before .before .before .before .before .before .admit-type .result) (c .before .before .before .before .before .before .before .before .before .before .before .if1 .left) in let r = laws.record-type (a .ty .now) adm (c .before .before .before .before .before .before .before .before .before .if2 .left) in let h : a .field < getD (a .ty .now) 1 0 = omega (arith, c .before .before .before .before .before .before .before .if3 .left) in let u : a .used ≤ length (a .buffer .now) = omega (arith, c .before .before .before .before .before .before .if4 .left) in let ab = bytes-before (a .used) (a .buffer .now) (all-bytes (a .buffer .now) (λ i. omega (arith, c .before .before .before .before .before .before .before .before .before .before .before .before .before .before .before .slice-known .given i))) in let w = laws.r-span (a .ty .now) (a .buffer .now) (a .used) (a .field) (a .words .now) (a .pool .now) r h u ab _ _ _ (rw (c .before .before .at .given .1) at (c .before .before .before .before .find-field .ensures)) in (w .0, w .1, u)
+put-field-requires c κs = let s = c .before .before .before .before .before .before .before .before .before .before .before .before .before .before .before .before .before in let a = s .args in let adm = sym (c .before .before .before .before .before .before .before .before .before .before .before .before .admit-type .ensures) ∙ not-false (c .before .before .before .before .before .before .before .before .before .before .before .before .admit-type .result) (c .before .before .before .before .before .before .before .before .before .before .before .if1 .left) in let r = laws.record-type (a .ty .now) adm (c .before .before .before .before .before .before .before .before .before .if2 .left) in let h : a .field < getD (a .ty .now) 1 0 = omega (arith, c .before .before .before .before .before .before .before .if3 .left) in let u : a .used ≤ length (a .buffer .now) = omega (arith, c .before .before .before .before .before .before .if4 .left) in let ab = bytes-before (a .used) (a .buffer .now) (all-bytes (a .buffer .now) (λ i. omega (arith, c .before .before .before .before .before .before .before .before .before .before .before .before .before .before .before .slice-known .given i))) in let w = laws.r-span (a .ty .now) (a .buffer .now) (a .used) (a .field) (a .words .now) (a .pool .now) r h u ab _ _ _ (rw (c .before .before .at .given .1) at (c .before .before .before .before .find-field .ensures)) in (w .0, w .1, u, types.its-tree (a .ty .now) adm .1 .long)
 
 -- src/replacing.rt:66:1
 same-length : tie.Need-same-length
