@@ -31,7 +31,7 @@ pub fn encode_typed(ty: &[u32], words: &[u64], pool: &[u8], out: &mut [u8]) -> E
     if out.len() < n {
         return Encoded::Refused(format::NO_ROOM, n as u64);
     }
-    write::put_value(words, pool, out, write::stand(0, 0, 0, 0));
+    write::put_value(words, pool, out, 0, 0, 0);
     Encoded::Done(n)
 }
 
@@ -81,18 +81,18 @@ pub fn put_key(ty: &[u32], words: &[u64], pool: &[u8], out: &mut [u8])
     ensures { λ _. ⌜ PutKey (now (ty .entry)) (now (words .entry)) (now (pool .entry)) (now (out .entry)) (now (out .exit)) ⌝ }
 {
     if ty.len() < 2 {
-        write::put_value(words, pool, out, write::stand(0, 0, 0, 0));
+        write::put_value(words, pool, out, 0, 0, 0);
         return;
     }
     if ty[0] != format::KIND_RECORD {
-        write::put_value(words, pool, out, write::stand(0, 0, 0, 0));
+        write::put_value(words, pool, out, 0, 0, 0);
         return;
     }
     if words.len() < 2 {
         return;
     }
     let count = words[1];
-    write::put_fields(words, pool, out, write::stand(2, 0, 0, count));
+    write::put_fields(words, pool, out, 2, 0, 0, count);
 }
 
 // Encodes a value as a key of its type at the buffer's beginning.

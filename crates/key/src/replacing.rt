@@ -26,7 +26,7 @@ fn splice(
     ensures { λ _. ⌜ Splices (now (buffer .entry)) used start end n (now (words .entry)) (now (pool .entry)) (now (buffer .exit)) ⌝ }
 {
     blocks::move_within(buffer, end, start + n, used - end);
-    write::put_value(words, pool, buffer, write::stand(0, 0, start, 0));
+    write::put_value(words, pool, buffer, 0, 0, start);
 }
 
 // The new value in the place of a field that was found.

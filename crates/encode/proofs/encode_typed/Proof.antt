@@ -14,7 +14,6 @@ use Rattle.fit.proofs.number_of.Reads as number-of-reads
 use Rattle.sheet.proofs.admit_type.Reads as admit-type-reads
 use Rattle.sheet.proofs.admit_value.Reads as admit-value-reads
 use Rattle.write.proofs.put_value.Reads as put-value-reads
-use Rattle.write.proofs.stand.Reads as stand-reads
 
 -- src/lib.rt:20:9
 admit-type-requires : tie.Need-admit-type-requires
@@ -56,13 +55,9 @@ encoded-len-requires c κs = let a = c .before .before .before .before .before .
 returns-4 : tie.Need-returns-4
 returns-4 c = let a = c .before .before .before .before .before .before .before .before .before .before .before .before .args in let z = laws.sizes (a .words .now) (a .pool .now) (sym (c .before .before .before .before .before .admit-value .ensures) ∙ not-false (c .before .before .before .before .before .admit-value .result) (c .before .before .before .before .if2 .left)) in laws.typed-room (a .ty .now) (a .words .now) (a .pool .now) (a .out .now) (laws.sheets (a .ty .now) (a .words .now) (a .pool .now) (sym (c .before .before .before .before .before .before .before .admit-type .ensures) ∙ not-false (c .before .before .before .before .before .before .before .admit-type .result) (c .before .before .before .before .before .before .if1 .left)) (sym (c .before .before .before .before .before .admit-value .ensures) ∙ not-false (c .before .before .before .before .before .admit-value .result) (c .before .before .before .before .if2 .left))) (c .before .before .before .fit-value .result) (c .before .before .before .fit-value .ensures .says) (c .before .before .if3 .left) _ (c .before .encoded-len .ensures .0) (c .if4 .taken) (omega (arith, z .0, z .1, c .before .encoded-len .ensures .1))
 
--- src/lib.rt:34:40
-stand-requires : tie.Need-stand-requires
-stand-requires c κs = search needs
-
 -- src/lib.rt:34:5
 put-value-requires : tie.Need-put-value-requires
-put-value-requires c κs = let a = c .before .before .before .before .before .before .before .before .before .before .before .before .before .before .args in rw (c .stand .ensures) (record { word-in = omega arith; pool-in = omega arith; at-in = omega arith })
+put-value-requires c κs = search needs
 
 -- src/lib.rt:17:1
 same-length : tie.Need-same-length
@@ -70,7 +65,7 @@ same-length c = search needs
 
 -- src/lib.rt:17:1
 returns-5 : tie.Need-returns-5
-returns-5 c = let a = c .before .before .before .before .before .before .before .before .before .before .before .before .before .before .before .before .before .args in let g = rw (c .before .before .before .stand .ensures) at (c .before .before .put-value .ensures) in laws.typed-done (a .ty .now) (a .words .now) (a .pool .now) (a .out .now) (laws.sheets (a .ty .now) (a .words .now) (a .pool .now) (sym (c .before .before .before .before .before .before .before .before .before .before .before .before .admit-type .ensures) ∙ not-false (c .before .before .before .before .before .before .before .before .before .before .before .before .admit-type .result) (c .before .before .before .before .before .before .before .before .before .before .before .if1 .left)) (sym (c .before .before .before .before .before .before .before .before .before .before .admit-value .ensures) ∙ not-false (c .before .before .before .before .before .before .before .before .before .before .admit-value .result) (c .before .before .before .before .before .before .before .before .before .if2 .left))) (c .before .before .before .before .before .before .before .before .fit-value .result) (c .before .before .before .before .before .before .before .before .fit-value .ensures .says) (c .before .before .before .before .before .before .before .if3 .left) _ (c .before .before .before .before .before .before .encoded-len .ensures .0) (c .before .before .before .before .before .if4 .left) _ _ (g .says)
+returns-5 c = let a = c .before .before .before .before .before .before .before .before .before .before .before .before .before .before .before .before .args in let g = c .before .before .put-value .ensures in laws.typed-done (a .ty .now) (a .words .now) (a .pool .now) (a .out .now) (laws.sheets (a .ty .now) (a .words .now) (a .pool .now) (sym (c .before .before .before .before .before .before .before .before .before .before .before .admit-type .ensures) ∙ not-false (c .before .before .before .before .before .before .before .before .before .before .before .admit-type .result) (c .before .before .before .before .before .before .before .before .before .before .if1 .left)) (sym (c .before .before .before .before .before .before .before .before .before .admit-value .ensures) ∙ not-false (c .before .before .before .before .before .before .before .before .before .admit-value .result) (c .before .before .before .before .before .before .before .before .if2 .left))) (c .before .before .before .before .before .before .before .fit-value .result) (c .before .before .before .before .before .before .before .fit-value .ensures .says) (c .before .before .before .before .before .before .if3 .left) _ (c .before .before .before .before .before .encoded-len .ensures .0) (c .before .before .before .before .if4 .left) _ _ (g .says)
 
 pub encode-typed-spec : {M : Type 1} → statement M
 encode-typed-spec =
@@ -86,7 +81,6 @@ encode-typed-spec =
     returns-3
     encoded-len-requires
     returns-4
-    stand-requires
     put-value-requires
     same-length
     returns-5)

@@ -7,7 +7,6 @@ use Rattle.key.proofs.replacing.splice.Reads as reads
 use Rattle.key.proofs.replacing.splice.Lts as lts
 use Rattle.blocks.proofs.move_within.Reads as move-within-reads
 use Rattle.write.proofs.put_value.Reads as put-value-reads
-use Rattle.write.proofs.stand.Reads as stand-reads
 
 -- src/replacing.rt:28:38
 add-move-within : tie.Need-add-move-within
@@ -21,13 +20,9 @@ sub-move-within c = search needs
 move-within-requires : tie.Need-move-within-requires
 move-within-requires c κs = search needs
 
--- src/replacing.rt:29:43
-stand-requires : tie.Need-stand-requires
-stand-requires c κs = search needs
-
 -- src/replacing.rt:29:5
 put-value-requires : tie.Need-put-value-requires
-put-value-requires c κs = let s = c .before .before .before .before .before .before .before .before .before in let a = s .args in rw (c .stand .ensures) (record { word-in = omega arith; pool-in = omega arith; at-in = omega (arith, s .pre .part, s .pre .within, s .pre .inside) })
+put-value-requires c κs = search needs
 
 -- src/replacing.rt:16:1
 same-length : tie.Need-same-length
@@ -35,7 +30,7 @@ same-length c = search needs
 
 -- src/replacing.rt:16:1
 returns : tie.Need-returns
-returns c = let s = c .before .before .before .before .before .before .before .before .before .before .before .before in let a = s .args in laws.spliced-by (a .buffer .now) (a .used) (a .start) (a .end) (a .n) (a .words .now) (a .pool .now) _ _ (c .before .before .put-value .result) (s .pre) (c .before .before .before .before .before .before .before .move-within .ensures) ((rw (c .before .before .before .stand .ensures) at (c .before .before .put-value .ensures)) .says)
+returns c = let s = c .before .before .before .before .before .before .before .before .before .before .before in let a = s .args in laws.spliced-by (a .buffer .now) (a .used) (a .start) (a .end) (a .n) (a .words .now) (a .pool .now) _ _ (c .before .before .put-value .result) (s .pre) (c .before .before .before .before .before .before .move-within .ensures) (c .before .before .put-value .ensures .says)
 
 pub splice-spec : {M : Type 1} → statement M
 splice-spec =
@@ -44,7 +39,6 @@ splice-spec =
     add-move-within
     sub-move-within
     move-within-requires
-    stand-requires
     put-value-requires
     same-length
     returns)
