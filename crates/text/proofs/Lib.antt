@@ -4,4 +4,5 @@ pub mod Chars
 pub mod Fronts
 pub mod Leads
 pub mod Texts
+pub mod RowLaws
 pub mod Specimens

@@ -1,5 +1,6 @@
-// Whole byte strings: whether they are text. ASCII goes by blocks, and a block with more in it by characters.
+// Whole byte strings: whether they are text. ASCII and characters of three bytes go by blocks, and a block with more in it by characters.
 use super::characters::char_width;
+use super::threes::past_threes;
 ghost use mathlib.Core.Path.{_≡_};
 ghost use Prim.Native.Nat.{_≤_, _<_};
 ghost use lib.ListN.{length};
@@ -36,7 +37,8 @@ pub fn valid(s: &[u8]) -> bool
 {
     let mut at: usize = blocks::past_ascii(s, 0);
     while at < s.len() {
-        let from = blocks::low_blocks(s, at, 32);
+        let low = blocks::low_blocks(s, at, 32);
+        let from = past_threes(s, low);
         let stop = block_end(s.len(), from);
         let next = walk(s, from, stop);
         if next < stop {

@@ -24,6 +24,9 @@ loop-holds c = (c .past-ascii .ensures .1, text-chunk (c .before .before .args .
 low-blocks-requires : tie.Need-low-blocks-requires Inv-loop μ-loop
 low-blocks-requires c κs = search needs
 
+past-threes-requires : tie.Need-past-threes-requires Inv-loop μ-loop
+past-threes-requires c κs = search needs
+
 block-end-requires : tie.Need-block-end-requires Inv-loop μ-loop
 block-end-requires c κs = search needs
 
@@ -31,13 +34,13 @@ walk-requires : tie.Need-walk-requires Inv-loop μ-loop
 walk-requires c κs = search needs
 
 returns : tie.Need-returns Inv-loop μ-loop
-returns c = sym (c .before .before .before .before .before .loop .inv .1 ∙ text-chunk (c .before .before .before .before .before .before .before .before .args .s .now) (c .before .before .before .before .before .loop .at) (c .before .before .before .low-blocks .result) ((c .before .before .before .low-blocks .ensures) .0) ((c .before .before .before .low-blocks .ensures) .1) ((c .before .before .before .low-blocks .ensures) .2) ∙ (c .before .walk .ensures) .same ∙ step-stops (c .before .before .before .before .before .before .before .before .args .s .now) (c .before .walk .result) (omega arith) ((c .before .walk .ensures) .stuck (c .if1 .taken)))
+returns c = sym (c .before .before .before .before .before .before .loop .inv .1 ∙ text-chunk (c .before .before .before .before .before .before .before .before .before .args .s .now) (c .before .before .before .before .before .before .loop .at) (c .before .before .before .before .low-blocks .result) ((c .before .before .before .before .low-blocks .ensures) .0) ((c .before .before .before .before .low-blocks .ensures) .1) ((c .before .before .before .before .low-blocks .ensures) .2) ∙ (c .before .before .before .past-threes .ensures) .2 ∙ (c .before .walk .ensures) .same ∙ step-stops (c .before .before .before .before .before .before .before .before .before .args .s .now) (c .before .walk .result) (omega arith) ((c .before .walk .ensures) .stuck (c .if1 .taken)))
 
 loop-less : tie.Need-loop-less Inv-loop μ-loop
-loop-less c = let m = moves-on (c .before .before .before .before .before .loop .at) (c .before .before .before .low-blocks .result) (c .before .before .block-end .result) (length (c .before .before .before .before .before .before .before .before .args .s .now)) (omega arith) ((c .before .before .before .low-blocks .ensures) .0) (c .before .before .block-end .ensures .1) (c .before .before .block-end .ensures .2) in omega arith
+loop-less c = let m = moves-on (c .before .before .before .before .before .before .loop .at) (c .before .before .before .past-threes .result) (c .before .before .block-end .result) (length (c .before .before .before .before .before .before .before .before .before .args .s .now)) (omega arith) (omega arith) (c .before .before .block-end .ensures .1) (c .before .before .block-end .ensures .2) in omega arith
 
 loop-again : tie.Need-loop-again Inv-loop μ-loop
-loop-again c = ((c .before .walk .ensures) .inside, c .before .before .before .before .before .loop .inv .1 ∙ text-chunk (c .before .before .before .before .before .before .before .before .args .s .now) (c .before .before .before .before .before .loop .at) (c .before .before .before .low-blocks .result) ((c .before .before .before .low-blocks .ensures) .0) ((c .before .before .before .low-blocks .ensures) .1) ((c .before .before .before .low-blocks .ensures) .2) ∙ (c .before .walk .ensures) .same)
+loop-again c = ((c .before .walk .ensures) .inside, c .before .before .before .before .before .before .loop .inv .1 ∙ text-chunk (c .before .before .before .before .before .before .before .before .before .args .s .now) (c .before .before .before .before .before .before .loop .at) (c .before .before .before .before .low-blocks .result) ((c .before .before .before .before .low-blocks .ensures) .0) ((c .before .before .before .before .low-blocks .ensures) .1) ((c .before .before .before .before .low-blocks .ensures) .2) ∙ (c .before .before .before .past-threes .ensures) .2 ∙ (c .before .walk .ensures) .same)
 
 returns-2 : tie.Need-returns-2 Inv-loop μ-loop
 returns-2 c = sym (c .before .loop .inv .1 ∙ ends-well (c .before .before .before .before .args .s .now) (c .before .loop .at) (c .loop-test .left))
@@ -51,6 +54,7 @@ valid-spec =
     past-ascii-requires
     loop-holds
     low-blocks-requires
+    past-threes-requires
     block-end-requires
     walk-requires
     returns
