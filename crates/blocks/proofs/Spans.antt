@@ -7,7 +7,7 @@ use native.Mathlib.Numerals.{add-one}
 use native.Mathlib.Omega.{arith}
 use lib.Bits.{bitOr, or-add-and, and-le-l, and-le-r}
 use lib.ListN.{length, getD, take, drop, take-append-drop}
-use lib.Seq.{slice, slice-cons, length-slice, getD-drop, getD-take, drop-append-le, length-take-le}
+use lib.Seq.{slice, slice-cons, length-slice, getD-drop, getD-take, drop-append-le, length-take-le, take-take}
 use Rattle.format.proofs.Tests.{Test, holds, fails, ltb-test}
 
 module _ (P : ℕ → Type 0) where
@@ -50,3 +50,9 @@ module _ (s : List ℕ) where
       let n = length-slice i z s l in
       let e : getD (slice i z s) k 0 ≡ getD s (i + k) 0 = getD-drop i (take z s) k 0 ∙ getD-take z s (i + k) 0 (omega arith) in
       subst P (sym e) (h (i + k) (omega arith) (omega arith))
+
+-- a part, in two
+pub slice-join : (s : List ℕ) (i j e : ℕ) → i ≤ j → j ≤ e → e ≤ length s → slice i e s ≡ slice i j s ++ slice j e s
+slice-join s i j e h k l =
+    let n : j ≤ length (take e s) = rw (length-take-le e s l) k in
+    drop-split (take e s) i j h n ∙ ap (λ (t : List ℕ). drop i t ++ slice j e s) (take-take j e s k)

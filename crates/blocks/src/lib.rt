@@ -7,6 +7,7 @@ mod zeros;
 pub use comparing::Order;
 pub use comparing::compare;
 pub use comparing::differ_at;
+pub use copying::copy_clear;
 pub use copying::copy_to;
 pub use copying::move_within;
 pub use low::low_blocks;

@@ -9,9 +9,9 @@ use lib.Seq.{slice, length-slice, drop-cons, drop-drop}
 use Rattle.format.specs.Scalar.{escaped}
 use Rattle.format.specs.Read.{Read, got, bad, consRead, getRun}
 use Rattle.format.specs.Fields.{put}
-use Rattle.blocks.specs.Zeros.{ZeroFrom}
+use Rattle.blocks.specs.Zeros.{NoZero, ZeroFrom}
 use Rattle.blocks.proofs.Spans.{drop-split, span-slice}
-use Rattle.blocks.proofs.Put.{Left, left-chunk}
+use Rattle.blocks.proofs.Put.{put-put, Left, left-chunk}
 use Rattle.scalar.specs.Runs.{unescape}
 use Rattle.scalar.proofs.Escapes.{escaped-none, escaped-byte, escaped-zero, unescape-none, unescape-byte, unescape-zero, run-byte}
 
@@ -101,3 +101,25 @@ module _ (s : List ℕ) (z : ℕ) (h : length s ≤ z) where
 
   pub unescape-past : unescape (drop z s) ≡ []
   unescape-past = ap unescape (drop-of-length-le s h) ∙ unescape-none
+
+-- ---- the bytes before a zero were written first
+
+module _ (s : List ℕ) (z : ℕ) (l : z ≤ length s) (none : NoZero s 0 z) where
+  front-split : escaped s ≡ slice 0 z s ++ escaped (drop z s)
+  front-split = ap escaped (drop-split s 0 z (omega arith) l) ∙ escaped-free (slice 0 z s) (drop z s) (span-slice s (λ b. b ≡ 0 → ⊥) 0 z l none)
+
+  front-long : length (slice 0 z s) ≡ z
+  front-long = omega (arith, length-slice 0 z s l)
+
+  pub front-ahead : length (escaped s) ≡ z + length (escaped (drop z s))
+  front-ahead = ap length front-split ∙ length-append (slice 0 z s) _ ∙ ap (λ (n : ℕ). n + length (escaped (drop z s))) front-long
+
+  pub front-then : (d : List ℕ) (at : ℕ) {d₁ d₂ : List ℕ} → at + length (escaped s) ≤ length d → d₁ ≡ put d at (slice 0 z s) → d₂ ≡ put d₁ (at + z) (escaped (drop z s)) → d₂ ≡ put d at (escaped s)
+  front-then d at {d₁} {d₂} h e f =
+      let n = front-long in
+      let a = front-ahead in
+      f
+      ∙ ap (λ (x : List ℕ). put x (at + z) (escaped (drop z s))) e
+      ∙ ap (λ (k : ℕ). put (put d at (slice 0 z s)) (at + k) (escaped (drop z s))) (sym n)
+      ∙ put-put d at (slice 0 z s) (escaped (drop z s)) (omega arith)
+      ∙ ap (put d at) (sym front-split)

@@ -1,7 +1,7 @@
 // Escaped runs: each 00 of the payload is written 00 FF, and a 00 not followed by FF ends the run.
 ghost use mathlib.Core.Path.{_≡_};
 ghost use Prim.Native.Nat.{_+_, _≤_};
-ghost use lib.ListN.{length};
+ghost use lib.ListN.{length, drop};
 ghost use lib.Seq.{slice};
 ghost use Rattle.format.specs.Scalar.{escaped};
 ghost use Rattle.format.specs.Utf8.{utf8};
@@ -24,13 +24,13 @@ pub fn run_len(src: &[u8], i: usize, e: usize) -> usize
     escaped_len(&src[i..e])
 }
 
-// Writes a payload as a run from a place on, and returns the place behind it.
-pub fn write_escaped(buf: &mut [u8], at: usize, payload: &[u8]) -> usize
-    requires { ⌜ at + length (escaped (now payload)) ≤ length (now buf) ⌝ }
-    ensures { λ r. ⌜ (r ≡ at + length (escaped (now (payload .entry)))) × (now (buf .exit) ≡ put (now (buf .entry)) at (escaped (now (payload .entry)))) ⌝ }
+// Writes what is left of a payload from a place in it on as a run, and returns the place behind it.
+fn write_rest(buf: &mut [u8], at: usize, payload: &[u8], from: usize) -> usize
+    requires { ⌜ (from ≤ length (now payload)) × (at + length (escaped (drop from (now payload))) ≤ length (now buf)) ⌝ }
+    ensures { λ r. ⌜ (r ≡ at + length (escaped (drop from (now (payload .entry))))) × (now (buf .exit) ≡ put (now (buf .entry)) at (escaped (drop from (now (payload .entry))))) ⌝ }
 {
     let mut o: usize = at;
-    let mut i: usize = 0;
+    let mut i: usize = from;
     loop {
         let z = blocks::zero_from(payload, i);
         blocks::copy_to(buf, o, payload, i, z);
@@ -46,6 +46,15 @@ pub fn write_escaped(buf: &mut [u8], at: usize, payload: &[u8]) -> usize
     }
     buf[o] = format::MARK_TERM;
     o + 1
+}
+
+// Writes a payload as a run from a place on, and returns the place behind it. Long bytes before the first zero go in one pass.
+pub fn write_escaped(buf: &mut [u8], at: usize, payload: &[u8]) -> usize
+    requires { ⌜ at + length (escaped (now payload)) ≤ length (now buf) ⌝ }
+    ensures { λ r. ⌜ (r ≡ at + length (escaped (now (payload .entry)))) × (now (buf .exit) ≡ put (now (buf .entry)) at (escaped (now (payload .entry)))) ⌝ }
+{
+    let i = blocks::copy_clear(buf, at, payload);
+    write_rest(buf, at + i, payload, i)
 }
 
 // The same for the payload src[i..e].

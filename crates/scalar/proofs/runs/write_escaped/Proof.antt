@@ -1,161 +1,26 @@
--- `write_escaped` meets its contract. The loop's invariant: the run of what is left of the payload, put from o on, makes the whole.
-use Prim.Native.Nat.{_-_, _≤_}
+-- `write_escaped` meets its contract.
+use borrow.Author.Needs.{needs}
 use native.Mathlib.Omega.{arith}
-use lib.ListN.{length, drop, length-set}
-use Rattle.format.specs.Scalar.{escaped}
-use Rattle.blocks.proofs.Put.{Left, left-all, left-store, left-none}
-use Rattle.scalar.proofs.Chunks.{escaped-copied, escaped-over, escaped-past, escaped-ahead}
+use Rattle.scalar.proofs.Escapes.{escaped-bounds}
+use Rattle.scalar.proofs.Chunks.{front-ahead, front-then}
 use Rattle.scalar.proofs.runs.write_escaped.Statement.{statement}
 use Rattle.scalar.proofs.runs.write_escaped.Tie as tie
 
-abbrev Inv-loop : tie.InvT-loop
-Inv-loop buf₀ at payload o₀ i₀ buf o i = (i ≤ length payload) × Left buf₀ at (escaped payload) buf o (escaped (drop i payload))
+copy-clear-requires : tie.Need-copy-clear-requires
+copy-clear-requires c κs = let b = escaped-bounds (c .before .before .before .args .payload .now) .0 in omega arith
 
-abbrev μ-loop : tie.MeasureT-loop
-μ-loop buf₀ at payload o₀ i₀ buf o i = length payload - i
+add-write-rest : tie.Need-add-write-rest
+add-write-rest c = search needs
 
-loop-holds : tie.Need-loop-holds Inv-loop μ-loop
-loop-holds c = (omega arith, left-all _ _ _)
+write-rest-requires : tie.Need-write-rest-requires
+write-rest-requires c κs = let a = front-ahead (c .before .before .before .before .before .before .before .args .payload .now) (c .before .before .before .copy-clear .result) ((c .before .before .before .copy-clear .ensures) .0) ((c .before .before .before .copy-clear .ensures) .1) in ((c .before .before .before .copy-clear .ensures) .0, omega arith)
 
-zero-from-requires : tie.Need-zero-from-requires Inv-loop μ-loop
-zero-from-requires c κs = omega arith
+same-length : tie.Need-same-length
+same-length c = search needs
 
-copy-to-requires : tie.Need-copy-to-requires Inv-loop μ-loop
-copy-to-requires c κs =
-    let l = c .before .before .loop in
-    let s = c .before .before .before .before .before .args .payload .now in
-    let z = c .before .zero-from .result in
-    let f = c .before .zero-from .ensures in
-    let ahead = escaped-ahead s (l .i) z f in
-    (f .after, f .inside, omega arith)
-
-sub-o : tie.Need-sub-o Inv-loop μ-loop
-sub-o c = c .before .before .before .before .zero-from .ensures .after
-
-add-o : tie.Need-add-o Inv-loop μ-loop
-add-o c =
-    let l = c .before .before .before .before .before .loop in
-    let s = c .before .before .before .before .before .before .before .before .args .payload .now in
-    let z = c .before .before .before .before .zero-from .result in
-    let f = c .before .before .before .before .zero-from .ensures in
-    let ahead = escaped-ahead s (l .i) z f in
-    omega arith
-
-slice-write-buf : tie.Need-slice-write-buf Inv-loop μ-loop
-slice-write-buf c =
-    let l = c .before .before .before .before .before .before .loop in
-    let s = c .before .before .before .before .before .before .before .before .before .args .payload .now in
-    let z = c .before .before .before .before .before .zero-from .result in
-    let f = c .before .before .before .before .before .zero-from .ensures in
-    let copied = escaped-copied s (l .i) z f (omega arith) (l .inv .1) (c .before .before .before .copy-to .ensures) in
-    let left = rw (escaped-over s (l .i) z f (c .if1 .left)) at copied in
-    omega arith
-
-add-o-2 : tie.Need-add-o-2 Inv-loop μ-loop
-add-o-2 c =
-    let l = c .before .before .before .before .before .before .loop in
-    let s = c .before .before .before .before .before .before .before .before .before .args .payload .now in
-    let z = c .before .before .before .before .before .zero-from .result in
-    let f = c .before .before .before .before .before .zero-from .ensures in
-    let copied = escaped-copied s (l .i) z f (omega arith) (l .inv .1) (c .before .before .before .copy-to .ensures) in
-    let left = rw (escaped-over s (l .i) z f (c .if1 .left)) at copied in
-    omega arith
-
-slice-write-buf-2 : tie.Need-slice-write-buf-2 Inv-loop μ-loop
-slice-write-buf-2 c =
-    let l = c .before .before .before .before .before .before .loop in
-    let s = c .before .before .before .before .before .before .before .before .before .args .payload .now in
-    let z = c .before .before .before .before .before .zero-from .result in
-    let f = c .before .before .before .before .before .zero-from .ensures in
-    let copied = escaped-copied s (l .i) z f (omega arith) (l .inv .1) (c .before .before .before .copy-to .ensures) in
-    let left = rw (escaped-over s (l .i) z f (c .if1 .left)) at copied in
-    simp length-set (omega arith)
-
-add-o-3 : tie.Need-add-o-3 Inv-loop μ-loop
-add-o-3 c =
-    let l = c .before .before .before .before .before .before .loop in
-    let s = c .before .before .before .before .before .before .before .before .before .args .payload .now in
-    let z = c .before .before .before .before .before .zero-from .result in
-    let f = c .before .before .before .before .before .zero-from .ensures in
-    let copied = escaped-copied s (l .i) z f (omega arith) (l .inv .1) (c .before .before .before .copy-to .ensures) in
-    let left = rw (escaped-over s (l .i) z f (c .if1 .left)) at copied in
-    omega arith
-
-add-i : tie.Need-add-i Inv-loop μ-loop
-add-i c = omega arith
-
-loop-less : tie.Need-loop-less Inv-loop μ-loop
-loop-less c = omega arith
-
-loop-again : tie.Need-loop-again Inv-loop μ-loop
-loop-again c =
-    let l = c .before .before .before .before .before .before .loop in
-    let s = c .before .before .before .before .before .before .before .before .before .args .payload .now in
-    let z = c .before .before .before .before .before .zero-from .result in
-    let f = c .before .before .before .before .before .zero-from .ensures in
-    let copied = escaped-copied s (l .i) z f (omega arith) (l .inv .1) (c .before .before .before .copy-to .ensures) in
-    let left = rw (escaped-over s (l .i) z f (c .if1 .left)) at copied in
-    (omega arith, left-store (omega arith) (left-store (omega arith) left))
-
-slice-write-buf-3 : tie.Need-slice-write-buf-3 Inv-loop μ-loop
-slice-write-buf-3 c =
-    let l = c .before .before .before .before .before .before .loop in
-    let s = c .before .before .before .before .before .before .before .before .before .args .payload .now in
-    let z = c .before .before .before .before .before .zero-from .result in
-    let f = c .before .before .before .before .before .zero-from .ensures in
-    let copied = escaped-copied s (l .i) z f (omega arith) (l .inv .1) (c .before .before .before .copy-to .ensures) in
-    let end = rw (escaped-past s z (c .if1 .taken)) at copied in
-    omega arith
-
-add-result : tie.Need-add-result Inv-loop μ-loop
-add-result c =
-    let l = c .before .before .before .before .before .before .loop in
-    let s = c .before .before .before .before .before .before .before .before .before .args .payload .now in
-    let z = c .before .before .before .before .before .zero-from .result in
-    let f = c .before .before .before .before .before .zero-from .ensures in
-    let copied = escaped-copied s (l .i) z f (omega arith) (l .inv .1) (c .before .before .before .copy-to .ensures) in
-    let end = rw (escaped-past s z (c .if1 .taken)) at copied in
-    omega arith
-
-same-length : tie.Need-same-length Inv-loop μ-loop
-same-length c =
-    let l = c .before .before .before .before .before .before .loop in
-    let s = c .before .before .before .before .before .before .before .before .before .args .payload .now in
-    let z = c .before .before .before .before .before .zero-from .result in
-    let f = c .before .before .before .before .before .zero-from .ensures in
-    let copied = escaped-copied s (l .i) z f (omega arith) (l .inv .1) (c .before .before .before .copy-to .ensures) in
-    simp length-set (copied .long)
-
-returns : tie.Need-returns Inv-loop μ-loop
-returns c =
-    let l = c .before .before .before .before .before .before .loop in
-    let s = c .before .before .before .before .before .before .before .before .before .args .payload .now in
-    let z = c .before .before .before .before .before .zero-from .result in
-    let f = c .before .before .before .before .before .zero-from .ensures in
-    let copied = escaped-copied s (l .i) z f (omega arith) (l .inv .1) (c .before .before .before .copy-to .ensures) in
-    let end = rw (escaped-past s z (c .if1 .taken)) at copied in
-    let done = left-store (omega arith) end in
-    (omega arith, left-none done)
+returns : tie.Need-returns
+returns c = let a = front-ahead (c .before .before .before .before .before .before .before .before .before .before .args .payload .now) (c .before .before .before .before .before .before .copy-clear .result) ((c .before .before .before .before .before .before .copy-clear .ensures) .0) ((c .before .before .before .before .before .before .copy-clear .ensures) .1) in (omega arith, front-then (c .before .before .before .before .before .before .before .before .before .before .args .payload .now) (c .before .before .before .before .before .before .copy-clear .result) ((c .before .before .before .before .before .before .copy-clear .ensures) .0) ((c .before .before .before .before .before .before .copy-clear .ensures) .1) (c .before .before .before .before .before .before .before .before .before .before .args .buf .now) (c .before .before .before .before .before .before .before .before .before .before .args .at) (c .before .before .before .before .before .before .before .before .before .before .pre) ((c .before .before .before .before .before .before .copy-clear .ensures) .2) (c .before .before .write-rest .ensures .1))
 
 pub write-escaped-spec : {M : Type 1} → statement M
 write-escaped-spec =
-    tie.close
-    (tie.spec
-    Inv-loop
-    μ-loop
-    loop-holds
-    zero-from-requires
-    copy-to-requires
-    sub-o
-    add-o
-    slice-write-buf
-    add-o-2
-    slice-write-buf-2
-    add-o-3
-    add-i
-    loop-less
-    loop-again
-    slice-write-buf-3
-    add-result
-    same-length
-    returns)
+    tie.close (tie.spec copy-clear-requires add-write-rest write-rest-requires same-length returns)
