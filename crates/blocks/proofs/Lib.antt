@@ -2,5 +2,6 @@
 pub mod Spans
 pub mod Put
 pub mod Moves
+pub mod Words
 pub mod Counts
 pub mod Orders
