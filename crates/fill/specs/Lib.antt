@@ -1,0 +1,2 @@
+-- What the filling walk promises.
+pub mod Fill

@@ -1,0 +1,15 @@
+// The value sheet of a key that is known to decode, by the key's marks alone: a value's type has no part in its bytes.
+// A typed value holds no null, so a 00 where a field would begin ends the fields.
+mod groups;
+mod leaves;
+
+pub use groups::fill_bare;
+pub use groups::fill_value;
+
+// The next places in the key, the words and the pool, and how many fields were passed.
+pub struct Filled {
+    pub next: usize,
+    pub words: usize,
+    pub pool: usize,
+    pub count: u64,
+}
