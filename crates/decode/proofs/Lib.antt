@@ -1,2 +1,3 @@
 -- Laws of the decoding calls, one for each way out of them.
+pub mod SizeLaws
 pub mod TopLaws

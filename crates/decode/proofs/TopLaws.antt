@@ -3,36 +3,100 @@ use mathlib.Core.Path.{_≡_, refl, sym, ap, subst, _∙_}
 use mathlib.Core.Bool.{Bool, true, false}
 use mathlib.Core.Option.{Option, some, none}
 use mathlib.Core.List.{List, [], _∷_, _++_}
-use Prim.Native.Nat.{ℕ, _+_, _^_, _≤_, _<_}
-use native.Mathlib.Nat.{zero-add}
+use Prim.Native.Nat.{ℕ, suc, _+_, _*_, _^_, _≤_, _<_}
 use native.Mathlib.Omega.{arith}
 use borrow.Author.Tests.{lt-ltb, le-ltb}
 use lib.ListN.{length, getD, drop}
-use lib.Seq.{sets-eq}
 use Rattle.format.specs.Answer.{ok, shown, noRoom}
-use Rattle.format.specs.Tree.{Ty, Val}
-use Rattle.format.specs.Sheet.{valWords, valPool}
+use Rattle.format.specs.Tree.{Ty, Tys, Alts, Val, Vals}
+use Rattle.format.specs.Sheet.{tyWords, tysWords, valWords, valsWords, valPool}
 use Rattle.format.specs.TypeSheet.{maxGroups, nesting, isSome, typeOf, Admitted}
 use Rattle.format.specs.Decode as format
 use Rattle.format.specs.Calls.{filled, decodedBy, over, checkedBy, checkKeyCall}
 use Rattle.format.proofs.SheetPlaces.{front}
-use Rattle.format.proofs.TypePlaces.{TypeIn, top}
+use Rattle.format.proofs.TypePlaces.{TypeIn, kind-is, top}
 use Rattle.format.proofs.TypeLaws.{admitted, some-of}
-use Rattle.read.specs.Walk.{TypeAt, Stored, Walks, ValueWalk, KeyWalk, readKey}
+use Rattle.fill.specs.Fill.{ValueFilled, BareFilled}
+use Rattle.read.specs.Walk.{TypeAt, Walks, ValueWalk, KeyWalk, readKey}
 use Rattle.read.specs.declared.Walked.{Walked}
 use Rattle.read.specs.declared.Walked.the-variants.{Good, Bad}
+use Rattle.read.proofs.PlaceLaws.{record-at}
 use Rattle.read.proofs.WalkLaws.{gone, Says, good-says, bad-says}
-use Rattle.decode.specs.Answers.{decodedOf, checkedOf, readTop, decodedTop, fillCall, measuredBy, TopWalk}
+use Rattle.decode.specs.Answers.{decodedOf, checkedOf, readTop, decodedTop, fillCall, measuredBy, TopIs, TopWalk, TopWords, TopFilled}
 use Rattle.decode.specs.declared.Decoded.{Decoded}
 use Rattle.decode.specs.declared.CheckedKey.{CheckedKey}
+use Rattle.decode.proofs.SizeLaws.{Sized, sized, bare-sized}
+
+-- ---- a top record, bare or as a group
+
+module _ (ty : List ℕ) (bare : Bool) where
+  pub top-group : bare ≡ false → TopIs bare ty false
+  top-group e = subst (λ (x : Bool). TopIs x ty false) (sym e) (λ t l s bytes. refl)
+
+  module _ (e : bare ≡ true) where
+    pub top-record : getD ty 0 0 ≡ 5 → TopIs bare ty true
+    top-record k t l s = let q = record-at ty 0 k t l s in (q .0, q .1, e)
+
+    pub top-other : (getD ty 0 0 ≡ 5 → ⊥) → TopIs bare ty false
+    top-other k = subst (λ (x : Bool). TopIs x ty false) (sym e) go
+      where
+        go : TopIs true ty false
+        go Ty.Int l s bytes = refl
+        go Ty.Str l s bytes = refl
+        go Ty.Bytes l s bytes = refl
+        go (Ty.Ref p) l s bytes = refl
+        go (Ty.Record ts) l s bytes = absurd (k (kind-is ty 0 l (Ty.Record ts) s .1))
+        go (Ty.Union us) l s bytes = refl
 
 -- ---- the two walks
 
-pub key-walk : (ty bytes win wout pin pout : List ℕ) (r : Walked) (bare : Bool) → bare ≡ true → KeyWalk ty bytes win wout pin pout r → TopWalk bare ty bytes win wout pin pout r
-key-walk ty bytes win wout pin pout r bare e h = subst (λ (x : Bool). TopWalk x ty bytes win wout pin pout r) (sym e) (record { walk = h .walk })
+pub key-walk : (ty bytes : List ℕ) (r : Walked) (bare : Bool) → bare ≡ true → KeyWalk ty bytes r → TopWalk bare ty bytes r
+key-walk ty bytes r bare e h = subst (λ (x : Bool). TopWalk x ty bytes r) (sym e) (record { walk = h .walk })
 
-pub value-walk : (ty bytes win wout pin pout : List ℕ) (r : Walked) (bare : Bool) → bare ≡ false → ValueWalk ty 0 bytes 0 0 win wout 0 pin pout 0 0 r → TopWalk bare ty bytes win wout pin pout r
-value-walk ty bytes win wout pin pout r bare e h = subst (λ (x : Bool). TopWalk x ty bytes win wout pin pout r) (sym e) (record { walk = h .walk })
+pub value-walk : (ty bytes : List ℕ) (r : Walked) (bare : Bool) → bare ≡ false → ValueWalk ty 0 bytes 0 0 0 0 false r → TopWalk bare ty bytes r
+value-walk ty bytes r bare e h = subst (λ (x : Bool). TopWalk x ty bytes r) (sym e) (record { walk = h .walk })
+
+-- ---- how many words
+
+got-sized : {A : Type 0} (g : A → List ℕ) (n : ℕ) (D : format.Decoded A) (a : A) (r : List ℕ) (k : ℕ) → Sized g n D → D ≡ format.Decoded.got a r k → (length (g a) ≡ 2 * k) × (k ≤ n)
+got-sized g n D a r k h e = subst (Sized g n) e h
+
+-- a record whose fields are bare counts none for itself
+bare-words : (ts : Tys) (bytes : List ℕ) (v : Val) (r : List ℕ) (k : ℕ) → format.after 0 Val.Record (format.decodeBare ts bytes) ≡ format.Decoded.got v r k → (length (valWords v) ≡ 2 * k + 2) × (k ≤ length (tyWords (Ty.Record ts)))
+unfolding valWords tyWords
+bare-words ts bytes v r k h = go (format.decodeBare ts bytes) (bare-sized ts bytes) h
+  where
+    go : (D : format.Decoded Vals) → Sized valsWords (length (tysWords ts)) D → format.after 0 Val.Record D ≡ format.Decoded.got v r k → (length (valWords v) ≡ 2 * k + 2) × (k ≤ length (tyWords (Ty.Record ts)))
+    go (format.Decoded.got vs l j) s e =
+        let ev : v ≡ Val.Record vs = cc in
+        let ek : k ≡ 0 + j = cc in
+        let lv : length (valWords v) ≡ suc (suc (length (valsWords vs))) = ap (λ (x : Val). length (valWords x)) ev in
+        (omega (arith, s .0), omega (arith, s .1))
+    go (format.Decoded.bad x d j) s e = let z : _≡_ {A = ℕ} 0 1 = cc in absurd (omega arith)
+
+-- no more values are begun than the type has words
+few : (bare : Bool) (t : Ty) (bytes : List ℕ) (v : Val) (r : List ℕ) (k : ℕ) → readTop bare t bytes ≡ format.Decoded.got v r k → k ≤ length (tyWords t)
+few false t bytes v r k h = got-sized valWords (length (tyWords t)) (format.decode t 0 bytes) v r k (sized t 0 bytes) h .1
+few true Ty.Int bytes v r k h = got-sized valWords (length (tyWords Ty.Int)) (format.decode Ty.Int 0 bytes) v r k (sized Ty.Int 0 bytes) h .1
+few true Ty.Str bytes v r k h = got-sized valWords (length (tyWords Ty.Str)) (format.decode Ty.Str 0 bytes) v r k (sized Ty.Str 0 bytes) h .1
+few true Ty.Bytes bytes v r k h = got-sized valWords (length (tyWords Ty.Bytes)) (format.decode Ty.Bytes 0 bytes) v r k (sized Ty.Bytes 0 bytes) h .1
+few true (Ty.Ref p) bytes v r k h = got-sized valWords (length (tyWords (Ty.Ref p))) (format.decode (Ty.Ref p) 0 bytes) v r k (sized (Ty.Ref p) 0 bytes) h .1
+few true (Ty.Record ts) bytes v r k h = bare-words ts bytes v r k h .1
+few true (Ty.Union us) bytes v r k h = got-sized valWords (length (tyWords (Ty.Union us))) (format.decode (Ty.Union us) 0 bytes) v r k (sized (Ty.Union us) 0 bytes) h .1
+
+module _ (bare : Bool) (ty : List ℕ) (k : ℕ) (q : Bool) (i : TopIs bare ty q) where
+  pub words-bare : q ≡ true → TopWords bare ty k (2 * k + 2)
+  words-bare e = record {
+    words = λ t l s bytes v rest h.
+        let f = subst (TopIs bare ty) e i t l s in
+        sym (bare-words (f .0) bytes v rest k (sym (λ j. readTop (f .2 j) (f .1 j) bytes) ∙ h) .0);
+  }
+
+  pub words-other : q ≡ false → TopWords bare ty k (2 * k)
+  words-other e = record {
+    words = λ t l s bytes v rest h.
+        sym (got-sized valWords (length (tyWords t)) (format.decode t 0 bytes) v rest k (sized t 0 bytes) (sym (subst (TopIs bare ty) e i t l s bytes) ∙ h) .0);
+  }
 
 -- ---- admission
 
@@ -56,11 +120,11 @@ module _ (bare : Bool) (ty bytes : List ℕ) (q : Bool) (e : q ≡ isSome (typeO
       go (some t) k = let z : _≡_ {A = ℕ} 0 1 = cc in absurd (omega arith)
       go none k = refl
 
-  module _ (h : q ≡ true) (win wout pin pout : List ℕ) (r : Walked) (v : TopWalk bare ty bytes win wout pin pout r) where
+  module _ (h : q ≡ true) (r : Walked) (v : TopWalk bare ty bytes r) where
     it : (t : Ty) × (typeOf ty ≡ some t) × TypeIn ty 0 t (length ty) × (nesting t ≤ maxGroups)
     it = its-type ty (sym e ∙ h)
 
-    walked : Walks valWords valPool bytes win wout pin pout (length ty) 0 0 0 r (readTop bare (it .0) bytes)
+    walked : Walks valPool bytes false (length ty) 0 0 r (readTop bare (it .0) bytes)
     walked = v .walk (it .0) (length ty) (it .2) (it .3)
 
     by : (D : format.Decoded Val) → readTop bare (it .0) bytes ≡ D → decodedTop bare ty bytes ≡ format.whole D
@@ -69,13 +133,17 @@ module _ (bare : Bool) (ty bytes : List ℕ) (q : Bool) (e : q ≡ isSome (typeO
     pub m-bad : (n d k : ℕ) → r ≡ Bad n d k → Decoded.Refused n d k ≡ measuredBy (decodedTop bare ty bytes)
     unfolding format.whole
     m-bad n d k y =
-        let s = bad-says valWords valPool bytes win wout pin pout (length ty) 0 0 0 r (readTop bare (it .0) bytes) n d k walked y in
+        let s = bad-says valPool bytes false (length ty) 0 0 r (readTop bare (it .0) bytes) n d k walked y in
         let ek : k ≡ s .0 = omega (arith, s .2) in
         ap (Decoded.Refused n d) ek ∙ sym (ap measuredBy (by _ (s .1)))
 
-    module _ (a i w p b : ℕ) (y : r ≡ Good a i w p b) where
-      says : Says valWords valPool bytes win wout pin pout (length ty) 0 0 0 (readTop bare (it .0) bytes) a i w p b
-      says = good-says valWords valPool bytes win wout pin pout (length ty) 0 0 0 r (readTop bare (it .0) bytes) a i w p b walked y
+    module _ (a i p b : ℕ) (y : r ≡ Good a i p b) where
+      says : Says valPool bytes false (length ty) 0 0 (readTop bare (it .0) bytes) a i p b
+      says = good-says valPool bytes false (length ty) 0 0 r (readTop bare (it .0) bytes) a i p b walked y
+
+      -- few values were begun
+      pub m-few : b ≤ length ty
+      m-few = omega (arith, says .begun, few bare (it .0) bytes (says .a) (drop i bytes) (says .k) (says .is), it .2 .long)
 
       pub m-left : (x : ℕ) → i < length bytes → x ≡ getD bytes i 0 → Decoded.Refused 2 x b ≡ measuredBy (decodedTop bare ty bytes)
       unfolding format.whole
@@ -83,11 +151,11 @@ module _ (bare : Bool) (ty bytes : List ℕ) (q : Bool) (e : q ≡ isSome (typeO
           let eb : b ≡ says .k = omega (arith, says .begun) in
           (λ j. Decoded.Refused 2 (ex j) (eb j)) ∙ sym (ap measuredBy (by _ (says .is ∙ ap (λ (l : List ℕ). format.Decoded.got (says .a) l (says .k)) (front bytes i inl))))
 
-      pub m-done : length bytes ≤ i → Decoded.Done w p b ≡ measuredBy (decodedTop bare ty bytes)
+      pub m-done : length bytes ≤ i → (w : ℕ) → TopWords bare ty b w → Decoded.Done w p b ≡ measuredBy (decodedTop bare ty bytes)
       unfolding format.whole
-      m-done all =
+      m-done all w f =
           let eb : b ≡ says .k = omega (arith, says .begun) in
-          let ew : w ≡ length (valWords (says .a)) = omega (arith, says .words) in
+          let ew : w ≡ length (valWords (says .a)) = f .words (it .0) (length ty) (it .2) bytes (says .a) (drop i bytes) (says .is ∙ ap (format.Decoded.got (says .a) (drop i bytes)) (sym eb)) in
           let ep : p ≡ length (valPool (says .a)) = omega (arith, says .pool) in
           (λ j. Decoded.Done (ew j) (ep j) (eb j)) ∙ sym (ap measuredBy (by _ (says .is ∙ ap (λ (l : List ℕ). format.Decoded.got (says .a) l (says .k)) (gone bytes i all))))
 
@@ -111,24 +179,14 @@ module _ (m : Decoded) where
   done-is (format.Decoded.bad x c j) e w p k h = let z : _≡_ {A = ℕ} 0 1 = cc in absurd (omega arith)
 
 -- nothing was left over
-whole-is : (D : format.Decoded Val) (v : Val) (rest : List ℕ) (k : ℕ) → format.whole D ≡ format.Decoded.got v rest k → D ≡ format.Decoded.got v rest k
+whole-is : (D : format.Decoded Val) (v : Val) (rest : List ℕ) (k : ℕ) → format.whole D ≡ format.Decoded.got v rest k → D ≡ format.Decoded.got v [] k
 unfolding format.whole
-whole-is (format.Decoded.got a [] j) v rest k h = h
+whole-is (format.Decoded.got a [] j) v rest k h = let ea : a ≡ v = cc in let ej : j ≡ k = cc in λ i. format.Decoded.got (ea i) [] (ej i)
 whole-is (format.Decoded.got a (b ∷ bs) j) v rest k h = let z : _≡_ {A = ℕ} 0 1 = cc in absurd (omega arith)
-whole-is (format.Decoded.bad n d j) v rest k h = h
-
--- a part of no elements that has come back
-pub back : (l buffer : List ℕ) → length l ≡ 0 → l ++ buffer ≡ buffer
-back [] buffer h = refl
-back (x ∷ l) buffer h = absurd (omega arith)
+whole-is (format.Decoded.bad n d j) v rest k h = let z : _≡_ {A = ℕ} 0 1 = cc in absurd (omega arith)
 
 fits-shown : (n : ℕ) → n < 2 ^ 64 → shown n ≡ n
 fits-shown n h = rw (lt-ltb n (2 ^ 64) h)
-
-filled-over : (l m xs : List ℕ) → length xs ≤ length l → Stored l 0 xs m → m ≡ over xs l
-filled-over l m xs h s =
-    let room : 0 + length xs ≤ length l = omega arith in
-    s .stored room ∙ sets-eq xs l 0 room ∙ ap (λ (k : ℕ). xs ++ drop k l) (zero-add (length xs))
 
 -- a sheet and the room for it
 module _ (win pin : List ℕ) (v : Val) (rest : List ℕ) (k : ℕ) where
@@ -143,54 +201,66 @@ module _ (win pin : List ℕ) (v : Val) (rest : List ℕ) (k : ℕ) where
         → filled win pin (format.Decoded.got v rest k) ≡ record { answer = ok (record { words = length (valWords v); pool = length (valPool v) }); begun = k; words = over (valWords v) win; pool = over (valPool v) pin }
     all-room h = rw (le-ltb _ _ room, le-ltb _ _ h)
 
-module _ (bare : Bool) (ty bytes win pin : List ℕ) (m : Decoded) (e : m ≡ measuredBy (decodedTop bare ty bytes)) where
-  module _ (wb pb : List ℕ) (ew : wb ≡ win) (ep : pb ≡ pin) where
-    pub f-bad : (n d k : ℕ) → m ≡ Decoded.Refused n d k → decodedOf (Decoded.Refused n d k) wb pb ≡ fillCall bare ty bytes win pin
-    f-bad n d k h = (λ j. decodedOf (Decoded.Refused n d k) (ew j) (ep j)) ∙ sym (ap (filled win pin) (refused-is m (decodedTop bare ty bytes) e n d k h))
-
-    module _ (w p k : ℕ) (h : m ≡ Decoded.Done w p k) where
-      is : (v : Val) × (rest : List ℕ) × (decodedTop bare ty bytes ≡ format.Decoded.got v rest k) × (w ≡ length (valWords v)) × (p ≡ length (valPool v))
-      is = done-is m (decodedTop bare ty bytes) e w p k h
-
-      same-words : length wb ≡ length win
-      same-words = ap length ew
-
-      same-pool : length pb ≡ length pin
-      same-pool = ap length ep
-
-      pub f-words : w < 2 ^ 64 → length wb < w → decodedOf (Decoded.Refused 17 w k) wb pb ≡ fillCall bare ty bytes win pin
-      f-words small short =
-          let el : w ≡ shown (length (valWords (is .0))) = sym (fits-shown w small) ∙ ap shown (is .3) in
-          (λ j. decodedOf (Decoded.Refused 17 (el j) k) (ew j) (ep j)) ∙ sym (ap (filled win pin) (is .2) ∙ no-words win pin (is .0) (is .1) k (omega (arith, is .3, same-words)))
-
-      pub f-pool : w ≤ length wb → p < 2 ^ 64 → length pb < p → decodedOf (Decoded.Refused 17 p k) wb pb ≡ fillCall bare ty bytes win pin
-      f-pool room small short =
-          let el : p ≡ shown (length (valPool (is .0))) = sym (fits-shown p small) ∙ ap shown (is .4) in
-          (λ j. decodedOf (Decoded.Refused 17 (el j) k) (ew j) (ep j)) ∙ sym (ap (filled win pin) (is .2) ∙ no-pool win pin (is .0) (is .1) k (omega (arith, is .3, same-words)) (omega (arith, is .4, same-pool)))
-
-      -- what was measured has a type, and it is what the walk reads
-      its : (t : Ty) × (typeOf ty ≡ some t) × (readTop bare t bytes ≡ format.Decoded.got (is .0) (is .1) k)
-      its = go (typeOf ty) refl (is .2)
+-- the filling walks
+module _ (bare : Bool) (ty bytes win pin wout pout : List ℕ) (q : Bool) (i : TopIs bare ty q) where
+  pub filled-bare : q ≡ true → BareFilled bytes win pin wout pout → TopFilled bare ty bytes win pin wout pout
+  filled-bare e f = record { fills = λ t l s v k h. go v k (subst (TopIs bare ty) e i t l s .0) (sym (let g = subst (TopIs bare ty) e i t l s in λ j. readTop (g .2 j) (g .1 j) bytes) ∙ h) }
+    where
+      go : (v : Val) (k : ℕ) (ts : Tys) → format.after 0 Val.Record (format.decodeBare ts bytes) ≡ format.Decoded.got v [] k → length (valWords v) ≤ length win → length (valPool v) ≤ length pin
+          → (wout ≡ over (valWords v) win) × (pout ≡ over (valPool v) pin)
+      go v k ts h = by (format.decodeBare ts bytes) refl h
         where
-          go : (o : Option Ty) → typeOf ty ≡ o → decodedBy o (λ t. format.whole (readTop bare t bytes)) ≡ format.Decoded.got (is .0) (is .1) k
-              → (t : Ty) × (typeOf ty ≡ some t) × (readTop bare t bytes ≡ format.Decoded.got (is .0) (is .1) k)
-          go (some t) o d = (t, o, whole-is (readTop bare t bytes) (is .0) (is .1) k d)
-          go none o d = let z : _≡_ {A = ℕ} 0 1 = cc in absurd (omega arith)
+          by : (D : format.Decoded Vals) → format.decodeBare ts bytes ≡ D → format.after 0 Val.Record D ≡ format.Decoded.got v [] k → length (valWords v) ≤ length win → length (valPool v) ≤ length pin
+              → (wout ≡ over (valWords v) win) × (pout ≡ over (valPool v) pin)
+          by (format.Decoded.got vs l j) d h =
+              let ev : Val.Record vs ≡ v = cc in
+              let el : l ≡ [] = cc in
+              subst (λ (x : Val). length (valWords x) ≤ length win → length (valPool x) ≤ length pin → (wout ≡ over (valWords x) win) × (pout ≡ over (valPool x) pin)) ev
+              (f .fills ts vs j (d ∙ ap (λ (x : List ℕ). format.Decoded.got vs x j) el))
+          by (format.Decoded.bad x c j) d h = let z : _≡_ {A = ℕ} 0 1 = cc in absurd (omega arith)
 
-      admits : Admitted ty (its .0)
-      admits = admitted ty (its .0) .0 (its .1)
+  pub filled-value : q ≡ false → ValueFilled bytes win pin wout pout → TopFilled bare ty bytes win pin wout pout
+  filled-value e f = record { fills = λ t l s v k h. f .fills t v k (sym (subst (TopIs bare ty) e i t l s bytes) ∙ h) }
 
-      pub f-type : TypeAt ty 0
-      f-type = record { t = its .0; end = length ty; here = top ty (its .0) admits; deep = admits .deep }
+module _ (bare : Bool) (ty bytes win pin : List ℕ) (m : Decoded) (e : m ≡ measuredBy (decodedTop bare ty bytes)) where
+  pub f-bad : (n d k : ℕ) → m ≡ Decoded.Refused n d k → decodedOf (Decoded.Refused n d k) win pin ≡ fillCall bare ty bytes win pin
+  f-bad n d k h = sym (ap (filled win pin) (refused-is m (decodedTop bare ty bytes) e n d k h))
 
-      pub f-done : w ≤ length wb → p ≤ length pb → (wout pout : List ℕ) (r : Walked) → TopWalk bare ty bytes wb wout pb pout r → decodedOf (Decoded.Done w p k) wout pout ≡ fillCall bare ty bytes win pin
-      f-done room room2 wout pout r v =
-          let g = subst (λ (D : format.Decoded Val). Walks valWords valPool bytes wb wout pb pout (length ty) 0 0 0 r D) (its .2) (v .walk (its .0) (length ty) (top ty (its .0) admits) (admits .deep)) in
-          let lw : length (valWords (is .0)) ≤ length win = omega (arith, is .3, same-words) in
-          let lp : length (valPool (is .0)) ≤ length pin = omega (arith, is .4, same-pool) in
-          let fw : wout ≡ over (valWords (is .0)) win = filled-over win wout (valWords (is .0)) lw (subst (λ (l : List ℕ). Stored l 0 (valWords (is .0)) wout) ew (g .written)) in
-          let fp : pout ≡ over (valPool (is .0)) pin = filled-over pin pout (valPool (is .0)) lp (subst (λ (l : List ℕ). Stored l 0 (valPool (is .0)) pout) ep (g .pooled)) in
-          (λ j. decodedOf (Decoded.Done (is .3 j) (is .4 j) k) (fw j) (fp j)) ∙ sym (ap (filled win pin) (is .2) ∙ all-room win pin (is .0) (is .1) k lw lp)
+  module _ (w p k : ℕ) (h : m ≡ Decoded.Done w p k) where
+    is : (v : Val) × (rest : List ℕ) × (decodedTop bare ty bytes ≡ format.Decoded.got v rest k) × (w ≡ length (valWords v)) × (p ≡ length (valPool v))
+    is = done-is m (decodedTop bare ty bytes) e w p k h
+
+    pub f-words : w < 2 ^ 64 → length win < w → decodedOf (Decoded.Refused 17 w k) win pin ≡ fillCall bare ty bytes win pin
+    f-words small short =
+        let el : w ≡ shown (length (valWords (is .0))) = sym (fits-shown w small) ∙ ap shown (is .3) in
+        ap (λ (x : ℕ). decodedOf (Decoded.Refused 17 x k) win pin) el ∙ sym (ap (filled win pin) (is .2) ∙ no-words win pin (is .0) (is .1) k (omega (arith, is .3)))
+
+    pub f-pool : w ≤ length win → p < 2 ^ 64 → length pin < p → decodedOf (Decoded.Refused 17 p k) win pin ≡ fillCall bare ty bytes win pin
+    f-pool room small short =
+        let el : p ≡ shown (length (valPool (is .0))) = sym (fits-shown p small) ∙ ap shown (is .4) in
+        ap (λ (x : ℕ). decodedOf (Decoded.Refused 17 x k) win pin) el ∙ sym (ap (filled win pin) (is .2) ∙ no-pool win pin (is .0) (is .1) k (omega (arith, is .3)) (omega (arith, is .4)))
+
+    -- what was measured has a type, and it is what the walk reads
+    its : (t : Ty) × (typeOf ty ≡ some t) × (readTop bare t bytes ≡ format.Decoded.got (is .0) [] k)
+    its = go (typeOf ty) refl (is .2)
+      where
+        go : (o : Option Ty) → typeOf ty ≡ o → decodedBy o (λ t. format.whole (readTop bare t bytes)) ≡ format.Decoded.got (is .0) (is .1) k
+            → (t : Ty) × (typeOf ty ≡ some t) × (readTop bare t bytes ≡ format.Decoded.got (is .0) [] k)
+        go (some t) o d = (t, o, whole-is (readTop bare t bytes) (is .0) (is .1) k d)
+        go none o d = let z : _≡_ {A = ℕ} 0 1 = cc in absurd (omega arith)
+
+    admits : Admitted ty (its .0)
+    admits = admitted ty (its .0) .0 (its .1)
+
+    pub f-type : TypeAt ty 0
+    f-type = record { t = its .0; end = length ty; here = top ty (its .0) admits; deep = admits .deep }
+
+    pub f-done : w ≤ length win → p ≤ length pin → (wout pout : List ℕ) → TopFilled bare ty bytes win pin wout pout → decodedOf (Decoded.Done w p k) wout pout ≡ fillCall bare ty bytes win pin
+    f-done room room2 wout pout f =
+        let lw : length (valWords (is .0)) ≤ length win = omega (arith, is .3) in
+        let lp : length (valPool (is .0)) ≤ length pin = omega (arith, is .4) in
+        let g = f .fills (its .0) (length ty) (top ty (its .0) admits) (is .0) k (its .2) lw lp in
+        (λ j. decodedOf (Decoded.Done (is .3 j) (is .4 j) k) (g .0 j) (g .1 j)) ∙ sym (ap (filled win pin) (is .2) ∙ all-room win pin (is .0) (is .1) k lw lp)
 
 -- ---- the calls
 

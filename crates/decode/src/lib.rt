@@ -1,11 +1,13 @@
-// Decoding whole keys into lent sheets: first measured over no room at all, then filled, so that a refused call writes nothing.
+// Decoding whole keys into lent sheets: first measured by the type, then filled by the marks alone, so that a refused call writes nothing.
 use read::Walked;
 ghost use mathlib.Core.Path.{_≡_};
 ghost use mathlib.Core.Bool.{Bool, true};
 ghost use Rattle.format.specs.TypeSheet.{isSome, typeOf};
 ghost use Rattle.format.specs.Calls.{decodeTypedCall, decodeKeyCall, checkKeyCall};
+ghost use Prim.Native.Nat.{_≤_};
+ghost use lib.ListN.{length};
 ghost use Rattle.read.specs.Walk.{TypeAt};
-ghost use Rattle.decode.specs.Answers.{decodedOf, checkedOf, TopWalk, measuredBy, fillCall, decodedTop};
+ghost use Rattle.decode.specs.Answers.{decodedOf, checkedOf, TopIs, TopWalk, TopWords, TopFilled, measuredBy, fillCall, decodedTop};
 
 // How many words and pool bytes were written, and the values begun; or the refusal, with the values begun.
 pub enum Decoded {
@@ -33,35 +35,53 @@ fn wide(x: u8) -> u64
     x as u64
 }
 
-// A whole value, a top record bare where `bare` is true, with what is left over.
-fn walk(ty: &[u32], bytes: &[u8], bare: bool, words: &mut [u64], pool: &mut [u8]) -> Walked
+// Are the fields of a top record bare: is there one, and is it asked for so?
+fn top_bare(ty: &[u32], bare: bool) -> bool
     requires { ⌜ TypeAt (now ty) 0 ⌝ }
-    ensures { λ r. ⌜ TopWalk bare (now (ty .entry)) (now (bytes .entry)) (now (words .entry)) (now (words .exit)) (now (pool .entry)) (now (pool .exit)) r ⌝ }
+    ensures { λ r. ⌜ TopIs bare (now (ty .entry)) r ⌝ }
+{
+    if !bare {
+        return false;
+    }
+    if ty[0] == format::KIND_RECORD {
+        return true;
+    }
+    false
+}
+
+// A whole value, a top record bare where `bare` is true, with what is left over.
+fn walk(ty: &[u32], bytes: &[u8], bare: bool) -> Walked
+    requires { ⌜ TypeAt (now ty) 0 ⌝ }
+    ensures { λ r. ⌜ TopWalk bare (now (ty .entry)) (now (bytes .entry)) r ⌝ }
 {
     if bare {
-        read::walk_key(ty, bytes, words, pool)
+        read::walk_key(ty, bytes)
     } else {
-        read::walk_value(ty, 0, bytes, 0, 0, words, 0, pool, 0, 0)
+        read::walk_value(ty, 0, bytes, 0, 0, 0, 0, false)
     }
 }
 
-// The refusals under an admitted type, or how many words and pool bytes the value takes. It is lent empty parts, so it writes nothing.
-fn measure_admitted(
-    ty: &[u32],
-    bytes: &[u8],
-    bare: bool,
-    words: &mut [u64],
-    pool: &mut [u8],
-) -> Decoded
+// How many words a value has: two for each value begun, and a bare record's own, which is none of them.
+fn word_count(ty: &[u32], bare: bool, begun: usize) -> usize
+    requires { ⌜ TypeAt (now ty) 0 ⌝ ∗ ⌜ begun ≤ length (now ty) ⌝ }
+    ensures { λ r. ⌜ TopWords bare (now (ty .entry)) begun r ⌝ }
+{
+    if top_bare(ty, bare) {
+        return 2 * begun + 2;
+    }
+    2 * begun
+}
+
+// The refusals under an admitted type, or how many words and pool bytes the value takes.
+fn measure_admitted(ty: &[u32], bytes: &[u8], bare: bool) -> Decoded
     requires { ⌜ isSome (typeOf (now ty)) ≡ true ⌝ }
     ensures { λ r. ⌜ r ≡ measuredBy (decodedTop bare (now (ty .entry)) (now (bytes .entry))) ⌝ }
 {
-    match walk(ty, bytes, bare, words, pool) {
+    match walk(ty, bytes, bare) {
         Walked::Bad { no, detail, begun } => Decoded::Refused { no, detail, begun },
         Walked::Good {
             at: _,
             next,
-            words: w,
             pool: p,
             begun,
         } => {
@@ -73,7 +93,7 @@ fn measure_admitted(
                 };
             }
             Decoded::Done {
-                words: w,
+                words: word_count(ty, bare, begun),
                 pool: p,
                 begun,
             }
@@ -82,7 +102,7 @@ fn measure_admitted(
 }
 
 // The same under any sheet.
-fn measure(ty: &[u32], bytes: &[u8], bare: bool, words: &mut [u64], pool: &mut [u8]) -> Decoded
+fn measure(ty: &[u32], bytes: &[u8], bare: bool) -> Decoded
     ensures { λ r. ⌜ r ≡ measuredBy (decodedTop bare (now (ty .entry)) (now (bytes .entry))) ⌝ }
 {
     if !sheet::admit_type(ty) {
@@ -92,14 +112,26 @@ fn measure(ty: &[u32], bytes: &[u8], bare: bool, words: &mut [u64], pool: &mut [
             begun: 0,
         };
     }
-    measure_admitted(ty, bytes, bare, words, pool)
+    measure_admitted(ty, bytes, bare)
+}
+
+// Puts the value that the bytes hold whole on the sheet, where it has room.
+fn put_sheet(ty: &[u32], bytes: &[u8], bare: bool, words: &mut [u64], pool: &mut [u8])
+    requires { ⌜ TypeAt (now ty) 0 ⌝ }
+    ensures { λ _. ⌜ TopFilled bare (now (ty .entry)) (now (bytes .entry)) (now (words .entry)) (now (pool .entry)) (now (words .exit)) (now (pool .exit)) ⌝ }
+{
+    if top_bare(ty, bare) {
+        fill::fill_bare(bytes, words, pool);
+        return;
+    }
+    fill::fill_value(bytes, words, pool);
 }
 
 // Measures, asks for room, and fills.
-fn fill(ty: &[u32], bytes: &[u8], bare: bool, words: &mut [u64], pool: &mut [u8]) -> Decoded
+fn decode(ty: &[u32], bytes: &[u8], bare: bool, words: &mut [u64], pool: &mut [u8]) -> Decoded
     ensures { λ r. ⌜ decodedOf r (now (words .exit)) (now (pool .exit)) ≡ fillCall bare (now (ty .entry)) (now (bytes .entry)) (now (words .entry)) (now (pool .entry)) ⌝ }
 {
-    match measure(ty, bytes, bare, &mut words[..0], &mut pool[..0]) {
+    match measure(ty, bytes, bare) {
         Decoded::Refused { no, detail, begun } => Decoded::Refused { no, detail, begun },
         Decoded::Done {
             words: w,
@@ -120,7 +152,7 @@ fn fill(ty: &[u32], bytes: &[u8], bare: bool, words: &mut [u64], pool: &mut [u8]
                     begun,
                 };
             }
-            walk(ty, bytes, bare, words, pool);
+            put_sheet(ty, bytes, bare, words, pool);
             Decoded::Done {
                 words: w,
                 pool: p,
@@ -134,14 +166,14 @@ fn fill(ty: &[u32], bytes: &[u8], bare: bool, words: &mut [u64], pool: &mut [u8]
 pub fn decode_typed(ty: &[u32], bytes: &[u8], words: &mut [u64], pool: &mut [u8]) -> Decoded
     ensures { λ r. ⌜ decodedOf r (now (words .exit)) (now (pool .exit)) ≡ decodeTypedCall (now (ty .entry)) (now (bytes .entry)) (now (words .entry)) (now (pool .entry)) ⌝ }
 {
-    fill(ty, bytes, false, words, pool)
+    decode(ty, bytes, false, words, pool)
 }
 
 // Decodes a key: a top record's fields are bare.
 pub fn decode_key(ty: &[u32], bytes: &[u8], words: &mut [u64], pool: &mut [u8]) -> Decoded
     ensures { λ r. ⌜ decodedOf r (now (words .exit)) (now (pool .exit)) ≡ decodeKeyCall (now (ty .entry)) (now (bytes .entry)) (now (words .entry)) (now (pool .entry)) ⌝ }
 {
-    fill(ty, bytes, true, words, pool)
+    decode(ty, bytes, true, words, pool)
 }
 
 // The same, keeping no value, so never NoRoom; of a type that is admitted, so that many keys of one type admit it once.
@@ -149,9 +181,7 @@ pub fn check_admitted(ty: &[u32], bytes: &[u8]) -> CheckedKey
     requires { ⌜ isSome (typeOf (now ty)) ≡ true ⌝ }
     ensures { λ r. ⌜ checkedOf r ≡ checkKeyCall (now (ty .entry)) (now (bytes .entry)) ⌝ }
 {
-    let mut words = [0u64; 1];
-    let mut pool = [0u8; 1];
-    match measure_admitted(ty, bytes, true, &mut words[..0], &mut pool[..0]) {
+    match measure_admitted(ty, bytes, true) {
         Decoded::Refused { no, detail, begun } => CheckedKey::Refused { no, detail, begun },
         Decoded::Done {
             words: _,

@@ -41,20 +41,7 @@ pub fn pass_value(ty: &[u32], at: usize, bytes: &[u8], i: usize) -> Passed
     requires { ⌜ TypeAt (now ty) at ⌝ ∗ ⌜ i ≤ length (now bytes) ⌝ }
     ensures { λ r. ⌜ PassesValue (now (ty .entry)) at (now (bytes .entry)) i r ⌝ }
 {
-    let mut words = [0u64; 1];
-    let mut pool = [0u8; 1];
-    match read::walk_value(
-        ty,
-        at,
-        bytes,
-        i,
-        0,
-        &mut words[..0],
-        0,
-        &mut pool[..0],
-        0,
-        0,
-    ) {
+    match read::walk_value(ty, at, bytes, i, 0, 0, 0, true) {
         Walked::Bad {
             no,
             detail,
@@ -63,7 +50,6 @@ pub fn pass_value(ty: &[u32], at: usize, bytes: &[u8], i: usize) -> Passed
         Walked::Good {
             at: end,
             next,
-            words: _,
             pool: _,
             begun: _,
         } => Passed::To(end, next),
@@ -75,32 +61,38 @@ pub fn pass_fields(ty: &[u32], at: usize, n: u32, bytes: &[u8], i: usize) -> Pas
     requires { ⌜ FieldsAt (now ty) at n ⌝ ∗ ⌜ i ≤ length (now bytes) ⌝ }
     ensures { λ r. ⌜ PassesFields (now (ty .entry)) at n (now (bytes .entry)) i r ⌝ }
 {
-    let mut a = at;
-    let mut left = n;
-    let mut j = i;
-    while 0 < left {
-        match pass_value(ty, a, bytes, j) {
-            Passed::Refused(no, detail) => {
-                return Passed::Refused(no, detail);
-            }
-            Passed::To(end, next) => {
-                a = end;
-                j = next;
-            }
-        }
-        left -= 1;
+    match read::walk_bare(ty, at, n, bytes, i, true) {
+        Walked::Bad {
+            no,
+            detail,
+            begun: _,
+        } => Passed::Refused(no, detail),
+        Walked::Good {
+            at: end,
+            next,
+            pool: _,
+            begun: _,
+        } => Passed::To(end, next),
     }
-    Passed::To(a, j)
 }
 
-// The last n fields of a key, with nothing left over.
+// The last n fields of a key, with nothing left over. The end of their types is not asked for.
 pub fn pass_rest(ty: &[u32], at: usize, n: u32, bytes: &[u8], i: usize) -> Rest
     requires { ⌜ FieldsAt (now ty) at n ⌝ ∗ ⌜ i ≤ length (now bytes) ⌝ }
     ensures { λ r. ⌜ Ends (now (ty .entry)) at n (now (bytes .entry)) i r ⌝ }
 {
-    match pass_fields(ty, at, n, bytes, i) {
-        Passed::Refused(no, detail) => Rest::Refused(no, detail),
-        Passed::To(_, next) => {
+    match read::walk_bare(ty, at, n, bytes, i, false) {
+        Walked::Bad {
+            no,
+            detail,
+            begun: _,
+        } => Rest::Refused(no, detail),
+        Walked::Good {
+            at: _,
+            next,
+            pool: _,
+            begun: _,
+        } => {
             if next < bytes.len() {
                 return Rest::Refused(format::UNEXPECTED_MARK, wide(bytes[next]));
             }

@@ -11,7 +11,7 @@ use lib.ListN.{length, getD, take, drop, length-drop}
 use lib.Seq.{take-all, drop-drop}
 use Rattle.format.specs.Answer.{if, Answer, ok, refused}
 use Rattle.format.specs.Tree.{Ty, Val}
-use Rattle.format.specs.Sheet.{valWords, valPool}
+use Rattle.format.specs.Sheet.{valPool}
 use Rattle.format.specs.Scalar.{predicateOf, sequenceOf}
 use Rattle.format.specs.Encode.{fitsRef, fine}
 use Rattle.format.specs.Utf8.{utf8}
@@ -27,42 +27,36 @@ use Rattle.scalar.proofs.Reading.{Took}
 use Rattle.scalar.proofs.Measures.{Measured, measured-run, measured-none}
 use Rattle.format.proofs.SheetPlaces.{front}
 use Rattle.read.proofs.GotLaws.{int-refused, int-took, id-refused, id-read}
-use Rattle.read.specs.Walk.{Within, Stored, Walks, LeafWalk, FoundRun, RunAt, payloadAt}
+use Rattle.read.specs.Walk.{Within, Walks, LeafWalk, FoundRun, RunAt, payloadAt}
 use Rattle.read.specs.declared.leaves.Run.{Run}
 use Rattle.read.specs.declared.Walked.{Walked}
 use Rattle.read.specs.declared.Walked.the-variants.{Good, Bad}
 use Rattle.read.proofs.WalkLaws.{well, refuse, gone}
-use Rattle.read.proofs.StoreLaws.{none-stored, stored-as}
 
 -- the rest of the key, as a part that is passed on
 pub rest-is : (l : List ℕ) (i : ℕ) → take (length l - i) (drop i l) ≡ drop i l
 rest-is l i = take-all _ _ (le-of-eq (length-drop i l))
 
-module _ (t : Ty) (bytes : List ℕ) (at i w p b end : ℕ) (ok : Within bytes at i w p b) where
-  leaf-bad : (win pin : List ℕ) (n d : ℕ) → ((depth : ℕ) → decode t depth (drop i bytes) ≡ Decoded.bad n d 1) → LeafWalk t bytes i win win w pin pin p b end (Bad n d (b + 1))
-  leaf-bad win pin n d h = record { walk = λ depth. refuse _ _ bytes win win pin pin end w p b n d 1 (b + 1) _ (h depth) refl (omega (arith, ok .place, ok .begun)) }
+module _ (t : Ty) (bytes : List ℕ) (i p b end : ℕ) (ok : Within bytes i p b) where
+  leaf-bad : (n d : ℕ) → ((depth : ℕ) → decode t depth (drop i bytes) ≡ Decoded.bad n d 1) → LeafWalk t bytes i p b end (Bad n d (b + 1))
+  leaf-bad n d h = record { walk = λ depth asked. refuse _ bytes asked end p b n d 1 (b + 1) _ (h depth) refl (omega (arith, ok .place, ok .begun)) }
 
-  -- the value v takes the bytes up to the place next, and its words are a kind and a number
-  leaf-good : (win wout pin pout : List ℕ) (next kind x p1 : ℕ) (v : Val) → ((depth : ℕ) → decode t depth (drop i bytes) ≡ Decoded.got v (drop next bytes) 1) → valWords v ≡ kind ∷ x ∷ []
-      → p1 ≡ p + length (valPool v) → i + length (valPool v) < next → next ≤ length bytes → at < end → Stored win w (kind ∷ x ∷ []) wout → Stored pin p (valPool v) pout
-      → LeafWalk t bytes i win wout w pin pout p b end (Good end next (w + 2) p1 (b + 1))
-  leaf-good win wout pin pout next kind x p1 v h ew ep far within on fw fp = record {
-    walk = λ depth.
-        subst (λ (D : Decoded Val). Walks valWords valPool bytes win wout pin pout end w p b (Good end next (w + 2) p1 (b + 1)) D) (sym (h depth))
-        (well bytes win wout pin pout end w p b (valWords v) (valPool v) (drop next bytes) 1 next (w + 2) p1 (b + 1) two ep refl refl
-        (record { place = within; words = omega (arith, ok .words); pool = omega (arith, ok .pool); begun = omega (arith, ok .begun) })
-        (stored-as win wout w (kind ∷ x ∷ []) (valWords v) (sym ew) fw) fp);
+  -- the value v takes the bytes up to the place next
+  leaf-good : (next p1 : ℕ) (v : Val) → ((depth : ℕ) → decode t depth (drop i bytes) ≡ Decoded.got v (drop next bytes) 1)
+      → p1 ≡ p + length (valPool v) → i + length (valPool v) < next → next ≤ length bytes → LeafWalk t bytes i p b end (Good end next p1 (b + 1))
+  leaf-good next p1 v h ep far within = record {
+    walk = λ depth asked.
+        subst (λ (D : Decoded Val). Walks valPool bytes asked end p b (Good end next p1 (b + 1)) D) (sym (h depth))
+        (well bytes asked end p b (valPool v) (drop next bytes) 1 end next p1 (b + 1) (λ q. refl) ep refl refl
+        (record { place = within; pool = omega (arith, ok .pool); begun = omega (arith, ok .begun) }));
   }
-    where
-      two : w + 2 ≡ w + length (valWords v)
-      two = ap (λ (l : List ℕ). w + length l) (sym ew)
 
 -- ---- integers
 
-module _ (bytes : List ℕ) (at i w p b : ℕ) (ok : Within bytes at i w p b) (r : GotInt) (h : gotInt r ≡ getI64Call (take (length bytes - i) (drop i bytes))) where
-  pub int-bad : (win : List ℕ) (n d : ℕ) → r ≡ GotInt.Refused n d → (pin : List ℕ) → LeafWalk Ty.Int bytes i win win w pin pin p b (at + 1) (Bad n d (b + 1))
+module _ (bytes : List ℕ) (i p b end : ℕ) (ok : Within bytes i p b) (r : GotInt) (h : gotInt r ≡ getI64Call (take (length bytes - i) (drop i bytes))) where
+  pub int-bad : (n d : ℕ) → r ≡ GotInt.Refused n d → LeafWalk Ty.Int bytes i p b end (Bad n d (b + 1))
   unfolding decode
-  int-bad win n d e pin = leaf-bad Ty.Int bytes at i w p b (at + 1) ok win pin n d (λ depth. ap (scalar Val.Int) (int-refused bytes i r n d h e))
+  int-bad n d e = leaf-bad Ty.Int bytes i p b end ok n d (λ depth. ap (scalar Val.Int) (int-refused bytes i r n d h e))
 
   module _ (x used : ℕ) (e : r ≡ GotInt.Value x used) where
     took : Took (drop i bytes) (getInt (drop i bytes)) x used
@@ -71,11 +65,11 @@ module _ (bytes : List ℕ) (at i w p b : ℕ) (ok : Within bytes at i w p b) (r
     pub int-within : i + used ≤ length bytes
     int-within = omega (arith, took .within, length-drop i bytes, ok .place)
 
-    pub int-good : (win wout : List ℕ) → Stored win w (1 ∷ x ∷ []) wout → (pin : List ℕ) → LeafWalk Ty.Int bytes i win wout w pin pin p b (at + 1) (Good (at + 1) (i + used) (w + 2) p (b + 1))
-    unfolding decode valWords valPool
-    int-good win wout f pin =
-        leaf-good Ty.Int bytes at i w p b (at + 1) ok win wout pin pin (i + used) 1 x p (Val.Int x) (λ depth. ap (scalar Val.Int) (took .reads ∙ ap (Read.got x) (drop-drop used i bytes))) refl
-        (sym (add-zero p)) (omega (arith, took .some)) int-within (omega arith) f (none-stored pin p)
+    pub int-good : LeafWalk Ty.Int bytes i p b end (Good end (i + used) p (b + 1))
+    unfolding decode valPool
+    int-good =
+        leaf-good Ty.Int bytes i p b end ok (i + used) p (Val.Int x) (λ depth. ap (scalar Val.Int) (took .reads ∙ ap (Read.got x) (drop-drop used i bytes)))
+        (sym (add-zero p)) (omega (arith, took .some)) int-within
 
 -- ---- references
 
@@ -103,11 +97,11 @@ ref-of q (m ∷ bs) = go (eqb m 0x51) (getBig 8 bs)
     go true (Read.bad n d) = refl
     go false R = refl
 
-module _ (q : ℕ) (bytes : List ℕ) (at i w p b : ℕ) (ok : Within bytes at i w p b) (g : GotInt) (h : gotInt g ≡ getFactIdCall (take (length bytes - i) (drop i bytes))) where
-  pub ref-bad : (win : List ℕ) (n d : ℕ) → g ≡ GotInt.Refused n d → (pin : List ℕ) → LeafWalk (Ty.Ref q) bytes i win win w pin pin p b (at + 2) (Bad n d (b + 1))
+module _ (q : ℕ) (bytes : List ℕ) (i p b end : ℕ) (ok : Within bytes i p b) (g : GotInt) (h : gotInt g ≡ getFactIdCall (take (length bytes - i) (drop i bytes))) where
+  pub ref-bad : (n d : ℕ) → g ≡ GotInt.Refused n d → LeafWalk (Ty.Ref q) bytes i p b end (Bad n d (b + 1))
   unfolding decode
-  ref-bad win n d e pin =
-      leaf-bad (Ty.Ref q) bytes at i w p b (at + 2) ok win pin n d (λ depth. ap (scalar Val.Ref) (ref-of q (drop i bytes) ∙ ap (λ (R : Read ℕ). thenRead R (under q)) (id-refused bytes i g n d h e)))
+  ref-bad n d e =
+      leaf-bad (Ty.Ref q) bytes i p b end ok n d (λ depth. ap (scalar Val.Ref) (ref-of q (drop i bytes) ∙ ap (λ (R : Read ℕ). thenRead R (under q)) (id-refused bytes i g n d h e)))
 
   module _ (r used : ℕ) (e : g ≡ GotInt.Value r used) where
     id : Took (drop i bytes) (getFactId (drop i bytes)) r used
@@ -120,16 +114,15 @@ module _ (q : ℕ) (bytes : List ℕ) (at i w p b : ℕ) (ok : Within bytes at i
     pub ref-within : i + used ≤ length bytes
     ref-within = omega (arith, id .within, length-drop i bytes, ok .place)
 
-    pub ref-other : (win : List ℕ) → (predicateOf r ≡ q → ⊥) → (pin : List ℕ) → LeafWalk (Ty.Ref q) bytes i win win w pin pin p b (at + 2) (Bad 8 (predicateOf r) (b + 1))
+    pub ref-other : (predicateOf r ≡ q → ⊥) → LeafWalk (Ty.Ref q) bytes i p b end (Bad 8 (predicateOf r) (b + 1))
     unfolding decode
-    ref-other win k pin = leaf-bad (Ty.Ref q) bytes at i w p b (at + 2) ok win pin 8 (predicateOf r) (λ depth. ap (scalar Val.Ref) (found false (ne-eqb _ _ k)))
+    ref-other k = leaf-bad (Ty.Ref q) bytes i p b end ok 8 (predicateOf r) (λ depth. ap (scalar Val.Ref) (found false (ne-eqb _ _ k)))
 
-    pub ref-good : (win wout : List ℕ) → predicateOf r ≡ q → Stored win w (4 ∷ r ∷ []) wout → (pin : List ℕ)
-        → LeafWalk (Ty.Ref q) bytes i win wout w pin pin p b (at + 2) (Good (at + 2) (i + used) (w + 2) p (b + 1))
-    unfolding decode valWords valPool
-    ref-good win wout k f pin =
-        leaf-good (Ty.Ref q) bytes at i w p b (at + 2) ok win wout pin pin (i + used) 4 r p (Val.Ref r) (λ depth. ap (scalar Val.Ref) (found true (eq-eqb _ _ k))) refl
-        (sym (add-zero p)) (omega (arith, id .some)) ref-within (omega arith) f (none-stored pin p)
+    pub ref-good : predicateOf r ≡ q → LeafWalk (Ty.Ref q) bytes i p b end (Good end (i + used) p (b + 1))
+    unfolding decode valPool
+    ref-good k =
+        leaf-good (Ty.Ref q) bytes i p b end ok (i + used) p (Val.Ref r) (λ depth. ap (scalar Val.Ref) (found true (eq-eqb _ _ k)))
+        (sym (add-zero p)) (omega (arith, id .some)) ref-within
 
 -- ---- runs behind a mark
 
@@ -177,46 +170,44 @@ module _ (bytes : List ℕ) (i mark : ℕ) where
             within = omega (arith, f .inside, length-drop (i + 1) bytes);
           }
 
-module _ (bytes : List ℕ) (at i w p b : ℕ) (ok : Within bytes at i w p b) (r : Run) where
+module _ (bytes : List ℕ) (i p b end : ℕ) (ok : Within bytes i p b) (r : Run) where
   module _ (h : RunAt bytes i 0x53 r) where
-    pub bytes-bad : (win pin : List ℕ) (n d : ℕ) → r ≡ Run.Refused n d → LeafWalk Ty.Bytes bytes i win win w pin pin p b (at + 1) (Bad n d (b + 1))
+    pub bytes-bad : (n d : ℕ) → r ≡ Run.Refused n d → LeafWalk Ty.Bytes bytes i p b end (Bad n d (b + 1))
     unfolding decode getBytes
-    bytes-bad win pin n d e = leaf-bad Ty.Bytes bytes at i w p b (at + 1) ok win pin n d (λ depth. ap (scalar Val.Bytes) (subst (RunAt bytes i 0x53) e h))
+    bytes-bad n d e = leaf-bad Ty.Bytes bytes i p b end ok n d (λ depth. ap (scalar Val.Bytes) (subst (RunAt bytes i 0x53) e h))
 
-    pub bytes-run : (end len : ℕ) → r ≡ Run.Ends end len → FoundRun bytes i 0x53 end len
-    bytes-run end len e = subst (RunAt bytes i 0x53) e h
+    pub bytes-run : (stop len : ℕ) → r ≡ Run.Ends stop len → FoundRun bytes i 0x53 stop len
+    bytes-run stop len e = subst (RunAt bytes i 0x53) e h
 
-    pub bytes-good : (win wout pin pout : List ℕ) (end len : ℕ) → r ≡ Run.Ends end len → Stored win w (3 ∷ len ∷ []) wout → Stored pin p (payloadAt bytes (i + 1) end) pout
-        → LeafWalk Ty.Bytes bytes i win wout w pin pout p b (at + 1) (Good (at + 1) (end + 1) (w + 2) (p + len) (b + 1))
-    unfolding decode getBytes valWords valPool
-    bytes-good win wout pin pout end len e fw fp =
-        let f = bytes-run end len e in
-        leaf-good Ty.Bytes bytes at i w p b (at + 1) ok win wout pin pout (end + 1) 3 len (p + len) (Val.Bytes (payloadAt bytes (i + 1) end)) (λ depth. ap (scalar Val.Bytes) (f .reads))
-        (ap (λ (n : ℕ). 3 ∷ n ∷ []) (sym (f .long))) (ap (λ (n : ℕ). p + n) (f .long)) (omega (arith, f .long, f .low)) (omega (arith, f .within)) (omega arith) fw fp
+    pub bytes-good : (stop len : ℕ) → r ≡ Run.Ends stop len → LeafWalk Ty.Bytes bytes i p b end (Good end (stop + 1) (p + len) (b + 1))
+    unfolding decode getBytes valPool
+    bytes-good stop len e =
+        let f = bytes-run stop len e in
+        leaf-good Ty.Bytes bytes i p b end ok (stop + 1) (p + len) (Val.Bytes (payloadAt bytes (i + 1) stop)) (λ depth. ap (scalar Val.Bytes) (f .reads))
+        (ap (λ (n : ℕ). p + n) (f .long)) (omega (arith, f .long, f .low)) (omega (arith, f .within))
 
   module _ (h : RunAt bytes i 0x21 r) where
-    pub str-bad : (win pin : List ℕ) (n d : ℕ) → r ≡ Run.Refused n d → LeafWalk Ty.Str bytes i win win w pin pin p b (at + 1) (Bad n d (b + 1))
+    pub str-bad : (n d : ℕ) → r ≡ Run.Refused n d → LeafWalk Ty.Str bytes i p b end (Bad n d (b + 1))
     unfolding decode
-    str-bad win pin n d e =
-        leaf-bad Ty.Str bytes at i w p b (at + 1) ok win pin n d (λ depth. ap (scalar Val.Str) (str-of (drop i bytes) ∙ ap (λ (R : Read (List ℕ)). thenRead R text) (subst (RunAt bytes i 0x21) e h)))
+    str-bad n d e =
+        leaf-bad Ty.Str bytes i p b end ok n d (λ depth. ap (scalar Val.Str) (str-of (drop i bytes) ∙ ap (λ (R : Read (List ℕ)). thenRead R text) (subst (RunAt bytes i 0x21) e h)))
 
-    pub str-run : (end len : ℕ) → r ≡ Run.Ends end len → FoundRun bytes i 0x21 end len
-    str-run end len e = subst (RunAt bytes i 0x21) e h
+    pub str-run : (stop len : ℕ) → r ≡ Run.Ends stop len → FoundRun bytes i 0x21 stop len
+    str-run stop len e = subst (RunAt bytes i 0x21) e h
 
-    module _ (end len : ℕ) (e : r ≡ Run.Ends end len) (q : Bool) (u : q ≡ utf8 (payloadAt bytes (i + 1) end)) where
-      judged : (c : Bool) → q ≡ c → getStr (drop i bytes) ≡ if c (Read.got (payloadAt bytes (i + 1) end) (drop (end + 1) bytes)) (Read.bad 4 0)
+    module _ (stop len : ℕ) (e : r ≡ Run.Ends stop len) (q : Bool) (u : q ≡ utf8 (payloadAt bytes (i + 1) stop)) where
+      judged : (c : Bool) → q ≡ c → getStr (drop i bytes) ≡ if c (Read.got (payloadAt bytes (i + 1) stop) (drop (stop + 1) bytes)) (Read.bad 4 0)
       judged c k =
-          str-of (drop i bytes) ∙ ap (λ (R : Read (List ℕ)). thenRead R text) (str-run end len e .reads)
-          ∙ ap (λ (x : Bool). if x (Read.got (payloadAt bytes (i + 1) end) (drop (end + 1) bytes)) (Read.bad 4 0)) (sym u ∙ k)
+          str-of (drop i bytes) ∙ ap (λ (R : Read (List ℕ)). thenRead R text) (str-run stop len e .reads)
+          ∙ ap (λ (x : Bool). if x (Read.got (payloadAt bytes (i + 1) stop) (drop (stop + 1) bytes)) (Read.bad 4 0)) (sym u ∙ k)
 
-      pub str-not : (win pin : List ℕ) → q ≡ false → LeafWalk Ty.Str bytes i win win w pin pin p b (at + 1) (Bad 4 0 (b + 1))
+      pub str-not : q ≡ false → LeafWalk Ty.Str bytes i p b end (Bad 4 0 (b + 1))
       unfolding decode
-      str-not win pin k = leaf-bad Ty.Str bytes at i w p b (at + 1) ok win pin 4 0 (λ depth. ap (scalar Val.Str) (judged false k))
+      str-not k = leaf-bad Ty.Str bytes i p b end ok 4 0 (λ depth. ap (scalar Val.Str) (judged false k))
 
-      pub str-good : (win wout pin pout : List ℕ) → q ≡ true → Stored win w (2 ∷ len ∷ []) wout → Stored pin p (payloadAt bytes (i + 1) end) pout
-          → LeafWalk Ty.Str bytes i win wout w pin pout p b (at + 1) (Good (at + 1) (end + 1) (w + 2) (p + len) (b + 1))
-      unfolding decode valWords valPool
-      str-good win wout pin pout k fw fp =
-          let f = str-run end len e in
-          leaf-good Ty.Str bytes at i w p b (at + 1) ok win wout pin pout (end + 1) 2 len (p + len) (Val.Str (payloadAt bytes (i + 1) end)) (λ depth. ap (scalar Val.Str) (judged true k))
-          (ap (λ (n : ℕ). 2 ∷ n ∷ []) (sym (f .long))) (ap (λ (n : ℕ). p + n) (f .long)) (omega (arith, f .long, f .low)) (omega (arith, f .within)) (omega arith) fw fp
+      pub str-good : q ≡ true → LeafWalk Ty.Str bytes i p b end (Good end (stop + 1) (p + len) (b + 1))
+      unfolding decode valPool
+      str-good k =
+          let f = str-run stop len e in
+          leaf-good Ty.Str bytes i p b end ok (stop + 1) (p + len) (Val.Str (payloadAt bytes (i + 1) stop)) (λ depth. ap (scalar Val.Str) (judged true k))
+          (ap (λ (n : ℕ). p + n) (f .long)) (omega (arith, f .long, f .low)) (omega (arith, f .within))

@@ -1,6 +1,5 @@
 -- Laws of the walkers, one for each way out of them.
 pub mod PlaceLaws
-pub mod StoreLaws
 pub mod GotLaws
 pub mod WalkLaws
 pub mod MarkLaws

@@ -1,12 +1,11 @@
 -- What the walkers' contracts say: a walk over the type and the key that stand at places does what the definition says of them.
 use mathlib.Core.Path.{_≡_}
-use mathlib.Core.Bool.{Bool}
-use Prim.Native.Nat.{ℕ, _+_, _-_, _*_, _≤_, _<_}
+use mathlib.Core.Bool.{Bool, true, false}
+use Prim.Native.Nat.{ℕ, _+_, _-_, _≤_, _<_}
 use mathlib.Core.List.{List, []}
 use lib.ListN.{length, take, drop}
-use lib.Seq.{sets}
 use Rattle.format.specs.Tree.{Ty, Tys, Alts, Val, Vals}
-use Rattle.format.specs.Sheet.{fieldCount, valWords, valsWords, valPool, valsPool}
+use Rattle.format.specs.Sheet.{fieldCount, valPool, valsPool}
 use Rattle.format.specs.TypeSheet.{maxGroups, nesting, nestings}
 use Rattle.format.specs.Encode.{maxDepth}
 use Rattle.format.specs.Read.{Read, marked, getRun}
@@ -33,39 +32,34 @@ pub record FieldsAt (ty : List ℕ) (at n : ℕ) : Type 0 where
   pub count : n ≡ fieldCount ts
   pub deep : nestings ts ≤ maxGroups
 
--- the places in the words and the pool, and the values begun, are bounded by the places in the type and in the key, so no sum is too large
-pub record Within (bytes : List ℕ) (at i w p b : ℕ) : Type 0 where
+-- the bytes for the pool and the values begun are bounded by the place in the key, so no sum is too large
+pub record Within (bytes : List ℕ) (i p b : ℕ) : Type 0 where
   pub place : i ≤ length bytes
-  pub words : w ≤ 2 * at
   pub pool : p ≤ i
   pub begun : b ≤ i
 
--- where the buffer l has room for them from a place on, the elements xs stand there in m, and all else is as it was
-pub record Stored (l : List ℕ) (at : ℕ) (xs m : List ℕ) : Type 0 where
-  pub stored : at + length xs ≤ length l → m ≡ sets l at xs
-
--- a walk that ended well: `ws` and `ps` are the words and the pool bytes of what was read, k the values begun in it and `rest` what is left of the key
-pub record Well (bytes win wout pin pout : List ℕ) (end w p b : ℕ) (ws ps rest : List ℕ) (k : ℕ) (r : Walked) : Type 0 where
+-- a walk that ended well: `ps` are the pool bytes of what was read, k the values begun in it and `rest` what is left of the key; the place in the type is the end where it is asked for
+pub record Well (bytes : List ℕ) (asked : Bool) (end p b : ℕ) (ps rest : List ℕ) (k : ℕ) (r : Walked) : Type 0 where
+  pub at : ℕ
   pub next : ℕ
-  pub answer : r ≡ Good end next (w + length ws) (p + length ps) (b + k)
+  pub answer : r ≡ Good at next (p + length ps) (b + k)
+  pub behind : asked ≡ true → at ≡ end
   pub left : drop next bytes ≡ rest
-  pub bounds : Within bytes end next (w + length ws) (p + length ps) (b + k)
-  pub written : Stored win w ws wout
-  pub pooled : Stored pin p ps pout
+  pub bounds : Within bytes next (p + length ps) (b + k)
 
--- the walk answers what the definition says, where f and g give the words and the pool bytes of what is read: b values were begun before it
-abbrev pub Walks : {A : Type 0} → (A → List ℕ) → (A → List ℕ) → (bytes win wout pin pout : List ℕ) (end w p b : ℕ) → Walked → Decoded A → Type 0
-Walks f g bytes win wout pin pout end w p b r (Decoded.got a rest k) = Well bytes win wout pin pout end w p b (f a) (g a) rest k r
-Walks f g bytes win wout pin pout end w p b r (Decoded.bad n d k) = (r ≡ Bad n d (b + k)) × (b + k ≤ length bytes + 1)
+-- the walk answers what the definition says, where g gives the pool bytes of what is read: p pool bytes and b values begun were before it
+abbrev pub Walks : {A : Type 0} → (A → List ℕ) → (bytes : List ℕ) → Bool → (end p b : ℕ) → Walked → Decoded A → Type 0
+Walks g bytes asked end p b r (Decoded.got a rest k) = Well bytes asked end p b (g a) rest k r
+Walks g bytes asked end p b r (Decoded.bad n d k) = (r ≡ Bad n d (b + k)) × (b + k ≤ length bytes + 1)
 
 -- the value walker: of any type that stands at the place
-pub record ValueWalk (ty : List ℕ) (at : ℕ) (bytes : List ℕ) (i depth : ℕ) (win wout : List ℕ) (w : ℕ) (pin pout : List ℕ) (p b : ℕ) (r : Walked) : Type 0 where
-  pub walk : (t : Ty) (e : ℕ) → TypeIn ty at t e → nesting t ≤ maxGroups → Walks valWords valPool bytes win wout pin pout e w p b r (decode t depth (drop i bytes))
+pub record ValueWalk (ty : List ℕ) (at : ℕ) (bytes : List ℕ) (i depth p b : ℕ) (asked : Bool) (r : Walked) : Type 0 where
+  pub walk : (t : Ty) (e : ℕ) → TypeIn ty at t e → nesting t ≤ maxGroups → Walks valPool bytes asked e p b r (decode t depth (drop i bytes))
 
--- the walkers over fields, where F reads them: of any n field types that stand at the place
-pub record FieldWalk (F : Tys → List ℕ → Decoded Vals) (ty : List ℕ) (at n : ℕ) (bytes : List ℕ) (i : ℕ) (win wout : List ℕ) (w : ℕ) (pin pout : List ℕ) (p b : ℕ) (r : Walked) : Type 0 where
-  pub walk : (ts : Tys) (e : ℕ) → TypesIn ty at ts e → n ≡ fieldCount ts → nestings ts ≤ maxGroups
-      → Walks valsWords valsPool bytes win wout pin pout e w p b r (F ts (drop i bytes))
+-- the walkers over fields, where F reads them: of any n field types that stand at the place; of none, they need to only where the place behind them is asked for
+pub record FieldWalk (F : Tys → List ℕ → Decoded Vals) (ty : List ℕ) (at n : ℕ) (bytes : List ℕ) (i p b : ℕ) (asked : Bool) (r : Walked) : Type 0 where
+  pub walk : (ts : Tys) (e : ℕ) → (asked ≡ true → TypesIn ty at ts e) → (0 < n → TypesIn ty at ts e) → n ≡ fieldCount ts → nestings ts ≤ maxGroups
+      → Walks valsPool bytes asked e p b r (F ts (drop i bytes))
 
 -- the fields of a group at a depth, with the group's end
 abbrev pub inGroup : ℕ → Tys → List ℕ → Decoded Vals
@@ -80,12 +74,12 @@ readKey (Ty.Ref p) bs = decode (Ty.Ref p) 0 bs
 readKey (Ty.Record ts) bs = after 0 Val.Record (decodeBare ts bs)
 readKey (Ty.Union alts) bs = decode (Ty.Union alts) 0 bs
 
-pub record KeyWalk (ty bytes win wout pin pout : List ℕ) (r : Walked) : Type 0 where
-  pub walk : (t : Ty) (e : ℕ) → TypeIn ty 0 t e → nesting t ≤ maxGroups → Walks valWords valPool bytes win wout pin pout e 0 0 0 r (readKey t bytes)
+pub record KeyWalk (ty bytes : List ℕ) (r : Walked) : Type 0 where
+  pub walk : (t : Ty) (e : ℕ) → TypeIn ty 0 t e → nesting t ≤ maxGroups → Walks valPool bytes false e 0 0 r (readKey t bytes)
 
 -- a scalar's walk, of its type
-pub record LeafWalk (t : Ty) (bytes : List ℕ) (i : ℕ) (win wout : List ℕ) (w : ℕ) (pin pout : List ℕ) (p b end : ℕ) (r : Walked) : Type 0 where
-  pub walk : (depth : ℕ) → Walks valWords valPool bytes win wout pin pout end w p b r (decode t depth (drop i bytes))
+pub record LeafWalk (t : Ty) (bytes : List ℕ) (i p b end : ℕ) (r : Walked) : Type 0 where
+  pub walk : (depth : ℕ) (asked : Bool) → Walks valPool bytes asked end p b r (decode t depth (drop i bytes))
 
 -- the payload of the run from a place up to its terminator
 abbrev pub payloadAt : (bytes : List ℕ) (i end : ℕ) → List ℕ

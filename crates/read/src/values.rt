@@ -1,6 +1,5 @@
 // The value walker and the field-list walker, which call each other: each call is at a later place of the type sheet.
 use crate::Walked;
-use crate::leaves::put_pair;
 use crate::leaves::walk_bytes;
 use crate::leaves::walk_int;
 use crate::leaves::walk_ref;
@@ -11,7 +10,31 @@ use crate::marks::close_union;
 use crate::marks::ends_here;
 use crate::marks::open_record;
 use crate::marks::open_union;
+ghost use mathlib.Core.Path.{_≡_};
+ghost use mathlib.Core.Bool.{true};
+ghost use Prim.Native.Nat.{_<_};
+ghost use Rattle.sheet.specs.Places.{SkipsAlts};
 ghost use Rattle.read.specs.Walk.{TypeAt, FieldsAt, Within, ValueWalk, FieldWalk, inGroup};
+
+// Is the place behind the first of some field types asked for? Where a field follows, or where the place behind the last one is.
+pub fn asks(left: u32, asked: bool) -> bool
+    ensures { λ r. ⌜ (1 < left → r ≡ true) × (asked ≡ true → r ≡ true) ⌝ }
+{
+    if 1 < left {
+        return true;
+    }
+    asked
+}
+
+// The place behind the alternatives left of a union, where it is asked for: they are not passed in vain.
+fn union_end(ty: &[u32], at: usize, left: u32, asked: bool) -> usize
+    ensures { λ r. ⌜ (asked ≡ true → SkipsAlts (now (ty .entry)) at left r) ⌝ }
+{
+    if asked {
+        return sheet::skip_alternatives(ty, at, left);
+    }
+    at
+}
 
 // A value under the type at a place of the sheet.
 pub fn walk_value(
@@ -20,32 +43,29 @@ pub fn walk_value(
     bytes: &[u8],
     i: usize,
     depth: u32,
-    words: &mut [u64],
-    w: usize,
-    pool: &mut [u8],
     p: usize,
     b: usize,
+    asked: bool,
 ) -> Walked
-    requires { ⌜ TypeAt (now ty) at ⌝ ∗ ⌜ Within (now bytes) at i w p b ⌝ }
-    ensures { λ r. ⌜ ValueWalk (now (ty .entry)) at (now (bytes .entry)) i depth (now (words .entry)) (now (words .exit)) w (now (pool .entry)) (now (pool .exit)) p b r ⌝ }
+    requires { ⌜ TypeAt (now ty) at ⌝ ∗ ⌜ Within (now bytes) i p b ⌝ }
+    ensures { λ r. ⌜ ValueWalk (now (ty .entry)) at (now (bytes .entry)) i depth p b asked r ⌝ }
 {
     let kind = ty[at];
+    let j = at + 1;
     if kind == format::KIND_INT {
-        return walk_int(bytes, i, words, w, p, b, at);
+        return walk_int(bytes, i, p, b, j);
     }
     if kind == format::KIND_STR {
-        return walk_str(bytes, i, words, w, pool, p, b, at);
+        return walk_str(bytes, i, p, b, j);
     }
     if kind == format::KIND_BYTES {
-        return walk_bytes(bytes, i, words, w, pool, p, b, at);
+        return walk_bytes(bytes, i, p, b, j);
     }
-    let j = at + 1;
     let n = ty[j];
     if kind == format::KIND_FACT {
-        return walk_ref(bytes, i, n, words, w, p, b, at);
+        return walk_ref(bytes, i, n, p, b, at + 2);
     }
     let b1 = b + 1;
-    let w1 = w + 2;
     if kind == format::KIND_RECORD {
         return match open_record(bytes, i, depth) {
             Step::Refused(no, detail) => Walked::Bad {
@@ -53,22 +73,7 @@ pub fn walk_value(
                 detail,
                 begun: b1,
             },
-            Step::To(next) => {
-                put_pair(words, w, format::KIND_RECORD, n as u64);
-                walk_fields(
-                    ty,
-                    at + 2,
-                    n,
-                    bytes,
-                    next,
-                    depth + 1,
-                    words,
-                    w1,
-                    pool,
-                    p,
-                    b1,
-                )
-            }
+            Step::To(next) => walk_fields(ty, at + 2, n, bytes, next, depth + 1, p, b1, asked),
         };
     }
     match open_union(bytes, i, depth) {
@@ -87,21 +92,18 @@ pub fn walk_value(
                     begun: b1,
                 };
             }
-            put_pair(words, w, format::KIND_UNION, tag);
-            match walk_value(ty, a, bytes, next, depth + 1, words, w1, pool, p, b1) {
+            match walk_value(ty, a, bytes, next, depth + 1, p, b1, asked) {
                 Walked::Bad { no, detail, begun } => Walked::Bad { no, detail, begun },
                 Walked::Good {
                     at: a2,
                     next: i2,
-                    words: w2,
                     pool: p2,
                     begun,
                 } => match close_union(bytes, i2) {
                     Step::Refused(no, detail) => Walked::Bad { no, detail, begun },
                     Step::To(i3) => Walked::Good {
-                        at: sheet::skip_alternatives(ty, a2, choice.left),
+                        at: union_end(ty, a2, choice.left, asked),
                         next: i3,
-                        words: w2,
                         pool: p2,
                         begun,
                     },
@@ -119,19 +121,16 @@ pub fn walk_fields(
     bytes: &[u8],
     i: usize,
     depth: u32,
-    words: &mut [u64],
-    w: usize,
-    pool: &mut [u8],
     p: usize,
     b: usize,
+    asked: bool,
 ) -> Walked
-    requires { ⌜ FieldsAt (now ty) at n ⌝ ∗ ⌜ Within (now bytes) at i w p b ⌝ }
-    ensures { λ r. ⌜ FieldWalk (inGroup depth) (now (ty .entry)) at n (now (bytes .entry)) i (now (words .entry)) (now (words .exit)) w (now (pool .entry)) (now (pool .exit)) p b r ⌝ }
+    requires { ⌜ FieldsAt (now ty) at n ⌝ ∗ ⌜ Within (now bytes) i p b ⌝ }
+    ensures { λ r. ⌜ FieldWalk (inGroup depth) (now (ty .entry)) at n (now (bytes .entry)) i p b asked r ⌝ }
 {
     let mut a = at;
     let mut left = n;
     let mut j = i;
-    let mut w1 = w;
     let mut p1 = p;
     let mut b1 = b;
     while 0 < left {
@@ -149,20 +148,18 @@ pub fn walk_fields(
                 begun: b1,
             };
         }
-        match walk_value(ty, a, bytes, j, depth, words, w1, pool, p1, b1) {
+        match walk_value(ty, a, bytes, j, depth, p1, b1, asks(left, asked)) {
             Walked::Bad { no, detail, begun } => {
                 return Walked::Bad { no, detail, begun };
             }
             Walked::Good {
                 at: a2,
                 next,
-                words: w2,
                 pool: p2,
                 begun,
             } => {
                 a = a2;
                 j = next;
-                w1 = w2;
                 p1 = p2;
                 b1 = begun;
             }
@@ -181,7 +178,6 @@ pub fn walk_fields(
         return Walked::Good {
             at: a,
             next: end,
-            words: w1,
             pool: p1,
             begun: b1,
         };

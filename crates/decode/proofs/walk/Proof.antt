@@ -1,42 +1,28 @@
 -- `walk` meets its contract.
-use borrow.Author.Needs.{needs}
 use Rattle.decode.proofs.TopLaws as laws
+use borrow.Author.Needs.{needs}
 use Rattle.decode.proofs.walk.Statement.{statement}
 use Rattle.decode.proofs.walk.Tie as tie
+use Rattle.decode.proofs.walk.Reads as reads
+use Rattle.decode.proofs.walk.Lts as lts
+use Rattle.read.proofs.walk_key.Reads as walk-key-reads
+use Rattle.read.proofs.walk_value.Reads as walk-value-reads
 
+-- src/lib.rt:58:9
 walk-key-requires : tie.Need-walk-key-requires
 walk-key-requires c κs = search needs
 
+-- src/lib.rt:60:9
 walk-value-requires : tie.Need-walk-value-requires
 walk-value-requires c κs = search needs
 
-same-length : tie.Need-same-length
-same-length c = search needs
-
-same-length-2 : tie.Need-same-length-2
-same-length-2 c = search needs
-
+-- src/lib.rt:53:1
 returns : tie.Need-returns
-returns c = let s = c .before .before .before .before .before .before .before .before .before .before .before .before in let a = s .args in laws.key-walk (a .ty .now) (a .bytes .now) _ _ _ _ _ (a .bare) (c .before .before .before .before .before .before .before .if1 .taken) (c .before .before .before .before .walk-key .ensures)
+returns c = let a = c .before .before .before .before .args in laws.key-walk (a .ty .now) (a .bytes .now) _ (a .bare) (c .before .if1 .taken) (c .walk-key .ensures)
 
-same-length-3 : tie.Need-same-length-3
-same-length-3 c = search needs
-
-same-length-4 : tie.Need-same-length-4
-same-length-4 c = search needs
-
+-- src/lib.rt:53:1
 returns-2 : tie.Need-returns-2
-returns-2 c = let s = c .before .before .before .before .before .before .before .before .before .before .before .before in let a = s .args in laws.value-walk (a .ty .now) (a .bytes .now) _ _ _ _ _ (a .bare) (c .before .before .before .before .before .before .before .if1 .left) (c .before .before .before .before .walk-value .ensures)
+returns-2 c = let a = c .before .before .before .before .args in laws.value-walk (a .ty .now) (a .bytes .now) _ (a .bare) (c .before .if1 .left) (c .walk-value .ensures)
 
 pub walk-spec : {M : Type 1} → statement M
-walk-spec =
-    tie.close
-    (tie.spec
-    walk-key-requires
-    walk-value-requires
-    same-length
-    same-length-2
-    returns
-    same-length-3
-    same-length-4
-    returns-2)
+walk-spec = tie.close (tie.spec walk-key-requires walk-value-requires returns returns-2)
