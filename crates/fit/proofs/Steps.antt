@@ -24,7 +24,7 @@ use Rattle.format.proofs.FitLaws.{typed, kinds, of-kinds, mismatch, predicateIn
 use Rattle.format.proofs.PlainLaws.{plain}
 use Rattle.format.proofs.EncodePlaces.{record-type, record-value, union-value}
 use Rattle.sheet.specs.Places.{Picks, Chosen, SkipsAlts}
-use Rattle.fit.specs.Fit.{places, refusals, lowOf, wordAt, numberOf, Stands, Refuses, Ready, Onward, Good, Bad, Gives, Known, Handed, One, Row, Step, RefSays, Plain, Closed}
+use Rattle.fit.specs.Fit.{places, refusals, lowOf, wordAt, numberOf, Stands, Refuses, Ready, Onward, Good, Bad, Gives, Known, Handed, One, Row, Step, RefSays, Plain, Last, Closed}
 
 -- ---- one word
 
@@ -413,18 +413,42 @@ module _ (ty words : List ℕ) (depth end n t w : ℕ) where
   pub row-plain : 0 < n → (m : ℕ) → (m ≡ 0 → ⊥) → Plain ty words t w m → (r : ℕ) → Row ty words depth end (n - 1) (t + m) (w + 2) r → Row ty words depth end n t w r
   row-plain h m z q r rest = row-more h 0 (unknown end (n - 1)) (t + m) (w + 2) (q .says z depth 0) r rest
 
+  -- one value alone
+  then-fine : (a : Answer Unit) (e f r : ℕ) → Gives a e f r → Gives (andThen a (λ u. fine)) e f r
+  then-fine (ok u) e f r s = s
+  then-fine (refused m d) e f r s = s
+
+  pub row-last : n ≡ 1 → (r : ℕ) → One ty words depth end t w r → Row ty words depth end n t w r
+  unfolding fits fieldCount valCount nesting tyWords valWords
+  row-last q r right = record { row = go }
+    where
+      go : (ts : Tys) (vs : Vals) → These r ts vs
+      go Tys.NoTy vs pool p e f g i j a known d b o = absurd (omega arith)
+      go (Tys.AddTy T ts) Vals.NoVal pool p e f g i j a known d b o = absurd (omega arith)
+      go (Tys.AddTy T (Tys.AddTy T′ ts)) (Vals.AddVal v vs) pool p e f g i j a known d b o = absurd (omega arith)
+      go (Tys.AddTy T Tys.NoTy) (Vals.AddVal v (Vals.AddVal v′ vs)) pool p e f g i j a known d b o = absurd (omega arith)
+      go (Tys.AddTy T Tys.NoTy) (Vals.AddVal v Vals.NoVal) pool p e f g i j a known d b o =
+          let x = types.field-in ty t e T Tys.NoTy a in
+          let y = values.field-in words pool w p f g v Vals.NoVal b in
+          let et : t + length (tyWords T) ≡ e = omega (arith, x .1 .long) in
+          let ev : w + length (valWords v) ≡ f = omega (arith, y .1 .words .long) in
+          then-fine (fits T depth v) e f r (right .one T v pool p e f _ (rw et at (x .0)) known (omega arith) (rw ev at (y .0)) (proper-both v Vals.NoVal o .0))
+
 -- ---- one plain field
+
+pub not-last : (ty words : List ℕ) (t w left depth : ℕ) → Last ty words t w left depth 0
+not-last ty words t w left depth =
+    record { one = λ z. absurd (z refl); type-in = λ z. absurd (z refl); word-in = λ z. absurd (z refl); shallow = λ z. absurd (z refl); says = λ z. absurd (z refl) }
 
 pub no-plain : (ty words : List ℕ) (t w : ℕ) → Plain ty words t w 0
 no-plain ty words t w = record { type-in = λ z. absurd (z refl); word-in = λ z. absurd (z refl); says = λ z. absurd (z refl) }
 
 -- ---- the loop over the fields
 
-pub record Walking (ty words : List ℕ) (depth end t₀ w₀ n t w left : ℕ) : Type 0 where
+pub record Walking (ty words : List ℕ) (end depth₀ t₀ w₀ n depth t w left : ℕ) : Type 0 where
   pub on : w₀ ≤ w
   pub word-in : w ≤ length words
-  pub fewer : left ≤ n
-  pub so-far : (r : ℕ) → Row ty words depth end left t w r → Row ty words depth end n t₀ w₀ r
+  pub so-far : (r : ℕ) → Row ty words depth end left t w r → Row ty words depth₀ end n t₀ w₀ r
 
 pub pos : (n : ℕ) → (n ≡ 0 → ⊥) → 0 < n
 pos zero h = absurd (h refl)

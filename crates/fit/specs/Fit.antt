@@ -109,6 +109,14 @@ pub record Plain (ty words : List ℕ) (t w n : ℕ) : Type 0 where
   pub word-in : (n ≡ 0 → ⊥) → w + 2 ≤ length words
   pub says : (n ≡ 0 → ⊥) → (depth end : ℕ) → Step ty words depth end t w (t + n) (w + 2)
 
+-- one field is left, a record that opens, and what its fields say, it says; n is 0 otherwise
+pub record Last (ty words : List ℕ) (t w left depth n : ℕ) : Type 0 where
+  pub one : (n ≡ 0 → ⊥) → left ≡ 1
+  pub type-in : (n ≡ 0 → ⊥) → t + 2 ≤ length ty
+  pub word-in : (n ≡ 0 → ⊥) → w + 2 ≤ length words
+  pub shallow : (n ≡ 0 → ⊥) → depth < 256
+  pub says : (n ≡ 0 → ⊥) → (end r : ℕ) → Row ty words (depth + 1) end (getD ty (t + 1) 0) (t + 2) (w + 2) r → One ty words depth end t w r
+
 -- a value that is no group, of its type's kind k and with the second word x
 pub record FitScalar (ty words : List ℕ) (t w k x r : ℕ) : Type 0 where
   pub onward : Onward words w r

@@ -5,7 +5,7 @@ ghost use lib.ListN.{length, getD, drop};
 ghost use lib.Seq.{slice};
 ghost use Rattle.format.specs.TypeSheet.{maxTypeWords};
 ghost use Rattle.format.specs.ValueSheet.{maxValueWords};
-ghost use Rattle.fit.specs.Fit.{refusals, lowOf, wordAt, numberOf, Stands, Refuses, Ready, RefSays, Plain, FitScalar, Handed, Closed, FitValue, FitFields};
+ghost use Rattle.fit.specs.Fit.{refusals, lowOf, wordAt, numberOf, Stands, Refuses, Ready, RefSays, Plain, Last, FitScalar, Handed, Closed, FitValue, FitFields};
 ghost use Rattle.fit.specs.Sum.{runOf, itemLen, sumLen, Within};
 
 // How many places, details and numbers the halves of an answer can hold. The low 32 bits of a reference are its sequence, the others its predicate.
@@ -113,6 +113,38 @@ fn plain(ty: &[u32], words: &[u64], t: usize, w: usize) -> usize
         return 0;
     }
     2
+}
+
+// 1 where the one field that is left is a record that may open, with as many fields as its type has; 0 where not. Its own fields end the row then.
+fn last(ty: &[u32], words: &[u64], t: usize, w: usize, left: u32, depth: u32) -> u32
+    requires { ⌜ w ≤ length (now words) ⌝ }
+    ensures { λ r. ⌜ Last (now (ty .entry)) (now (words .entry)) t w left depth r ⌝ }
+{
+    if left != 1 {
+        return 0;
+    }
+    if ty.len() <= t {
+        return 0;
+    }
+    if ty.len() - t < 2 {
+        return 0;
+    }
+    if words.len() - w < 2 {
+        return 0;
+    }
+    if ty[t] != format::KIND_RECORD {
+        return 0;
+    }
+    if words[w] != 5 {
+        return 0;
+    }
+    if words[w + 1] != wide(ty[t + 1]) {
+        return 0;
+    }
+    if format::MAX_RECORD_DEPTH <= depth {
+        return 0;
+    }
+    1
 }
 
 // A value that is no group, of its type's kind and with the second word x.
@@ -226,19 +258,25 @@ pub fn fit_fields(
     let mut t = at;
     let mut w = from;
     let mut left = n;
+    let mut level = depth;
     while 0 < left {
         let m = plain(ty, words, t, w);
-        if m == 0 {
-            let r = fit_value(ty, words, t, w, depth, handed(end, left - 1));
+        if m != 0 {
+            t += m;
+            w += 2;
+            left -= 1;
+        } else if last(ty, words, t, w, left, level) != 0 {
+            left = ty[t + 1];
+            t += 2;
+            w += 2;
+            level += 1;
+        } else {
+            let r = fit_value(ty, words, t, w, level, handed(end, left - 1));
             if REFUSED <= r {
                 return r;
             }
             t = place_of(r);
             w = word_of(r);
-            left -= 1;
-        } else {
-            t += m;
-            w += 2;
             left -= 1;
         }
     }
