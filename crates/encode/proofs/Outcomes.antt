@@ -1,6 +1,6 @@
 -- From the two passes' answers to the call's.
 use mathlib.Core.Path.{_≡_, refl, sym, ap, _∙_}
-use mathlib.Core.Bool.{Bool, true, false}
+use mathlib.Core.Bool.{true, false}
 use mathlib.Core.Option.{Option, some, none}
 use mathlib.Core.List.{List}
 use Prim.Native.Nat.{ℕ, _^_, _≤_, _<_}
@@ -8,7 +8,7 @@ use native.Mathlib.Omega.{arith}
 use native.Mathlib.Nat.{zero-add}
 use borrow.Author.Tests.{le-leb, lt-leb, lt-ltb}
 use lib.ListN.{length, drop}
-use Rattle.format.specs.Answer.{Answer, ok, refused, andThen}
+use Rattle.format.specs.Answer.{Answer, ok, refused}
 use Rattle.format.specs.Tree.{Ty, Val}
 use Rattle.format.specs.TypeSheet as types
 use Rattle.format.specs.TypeSheet.{typeOf, isSome, maxTypeWords}

@@ -1,19 +1,18 @@
 -- What fits, by the kind of type and value, and of fields one after another.
 use mathlib.Core.Path.{_≡_, refl, sym, ap, _∙_, subst}
-use mathlib.Core.List.{List, [], _∷_, _++_}
+use mathlib.Core.List.{List}
 use mathlib.Core.Option.{Option, some, none}
-use Prim.Native.Nat.{ℕ, zero, suc, _+_, _-_, _*_, _/_, _%_, _≤_, _<_, _^_, max}
+use Prim.Native.Nat.{ℕ, zero, suc, _+_, _-_, _*_, _/_, _%_, _≤_, _<_}
 use native.Mathlib.Omega.{arith}
 use borrow.Author.Tests.{eq-eqb, ne-eqb, lt-ltb, le-ltb}
-use lib.Dec.{eqb}
 use lib.ListN.{length, getD}
-use Rattle.format.specs.Answer.{if, Answer, ok, refused, andThen}
+use Rattle.format.specs.Answer.{Answer, ok, refused, andThen}
 use Rattle.format.specs.Tree.{Ty, Tys, Alts, Val, Vals, valKind, numberIn, fieldsIn, payloadIn}
-use Rattle.format.specs.Sheet.{fieldCount, altCount, valCount, tyWords, tysWords, altsWords, valWords, valPool, valsWords, valsPool}
+use Rattle.format.specs.Sheet.{fieldCount, altCount, valCount, tyWords, tysWords, altsWords, valWords, valPool}
 use Rattle.format.specs.TypeSheet.{nesting, nestings, altNestings, maxGroups, maxTypeWords}
 use Rattle.format.specs.ValueSheet.{Proper, AllProper}
 use Rattle.format.specs.Scalar.{predicateOf, sequenceOf}
-use Rattle.format.specs.Encode.{fits, fitsAll, fitsUnion, fitsRef, inUnion, groupAt, fine}
+use Rattle.format.specs.Encode.{fits, fitsAll, fitsRef, inUnion, groupAt, fine}
 use Rattle.format.proofs.TypePlaces.{TypeIn, TypesIn, AltsIn, tyKind, ref-in}
 use Rattle.format.proofs.TypePlaces as types
 use Rattle.format.proofs.ValuePlaces.{ValueIn, ValuesIn, wordOf}
@@ -24,7 +23,7 @@ use Rattle.format.proofs.FitLaws.{typed, kinds, of-kinds, mismatch, predicateIn
 use Rattle.format.proofs.PlainLaws.{plain}
 use Rattle.format.proofs.EncodePlaces.{record-type, record-value, union-value}
 use Rattle.sheet.specs.Places.{Picks, Chosen, SkipsAlts}
-use Rattle.fit.specs.Fit.{places, refusals, lowOf, wordAt, numberOf, Stands, Refuses, Ready, Onward, Good, Bad, Gives, Known, Handed, One, Row, Step, RefSays, Plain, Last, Closed}
+use Rattle.fit.specs.Fit.{places, refusals, lowOf, wordAt, numberOf, Stands, Refuses, Onward, Good, Bad, Gives, Known, Handed, One, Row, Step, RefSays, Plain, Last, Closed}
 
 -- ---- one word
 

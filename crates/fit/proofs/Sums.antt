@@ -1,14 +1,14 @@
 -- The sum over the words of a value sheet, step by step; and it is the length of the encoding of what fits.
 use mathlib.Core.Path.{_≡_, refl, sym, ap, _∙_}
-use mathlib.Core.Bool.{Bool, true, false}
+use mathlib.Core.Bool.{Bool}
 use mathlib.Core.List.{List, [], _∷_, _++_, append-assoc}
-use Prim.Native.Nat.{ℕ, zero, suc, _+_, _-_, _*_, _≤_, _<_}
+use Prim.Native.Nat.{ℕ, _+_, _-_, _*_, _≤_, _<_}
 use native.Mathlib.Omega.{arith}
 use lib.ListN.{length, getD, take, drop, length-append, length-drop, drop-of-length-le}
-use lib.Seq.{slice, take-add, take-all, drop-at, drop-drop, drop-length, length-take-le, take-append-seam, drop-append-seam}
+use lib.Seq.{slice, take-add, take-all, drop-at, drop-drop, length-take-le, take-append-seam, drop-append-seam}
 use Rattle.format.specs.Tree.{Ty, Tys, Val, Vals}
-use Rattle.format.specs.Sheet.{valCount, valWords, valsWords, valPool, valsPool}
-use Rattle.format.specs.Scalar.{intBytes, uintBytes, refBytes, strBytes, bytesBytes, escaped}
+use Rattle.format.specs.Sheet.{valWords, valsWords, valPool, valsPool}
+use Rattle.format.specs.Scalar.{intBytes, uintBytes, escaped}
 use Rattle.format.specs.Encode.{valBytes, valsBytes, fits, fitsAll, fine}
 use Rattle.format.proofs.Tests.{eqb-yes, eqb-no, Test, holds, fails, leb-test}
 use Rattle.format.proofs.SheetPlaces.{front2}

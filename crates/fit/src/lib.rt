@@ -15,7 +15,7 @@ const HALF: u64 = 0x1_0000_0000;
 pub const REFUSED: u64 = 0x8000_0000_0000_0000;
 
 // The walk stands at these places.
-pub fn stand(t: usize, w: usize) -> u64
+fn stand(t: usize, w: usize) -> u64
     requires { ⌜ w ≤ maxValueWords ⌝ }
     ensures { λ r. ⌜ Stands t w r ⌝ }
 {
@@ -296,6 +296,7 @@ fn run_of(kind: u64, x: u64, room: usize) -> usize
     0
 }
 
+// The number, at most the room.
 fn least(n: u64, room: usize) -> usize
     ensures { λ r. ⌜ Within n room r ⌝ }
 {

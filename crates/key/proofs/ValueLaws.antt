@@ -1,28 +1,27 @@
 -- What replacement answers once its field was found: the sheet, the value's fit, the limit, the room, the splice.
 use mathlib.Core.Path.{_≡_, refl, sym, ap, _∙_, subst}
-use mathlib.Core.Bool.{Bool, true, false}
+use mathlib.Core.Bool.{true, false}
 use mathlib.Core.Option.{Option, some, none}
-use mathlib.Core.List.{List, [], _++_}
+use mathlib.Core.List.{List, _++_}
 use Prim.Native.Nat.{ℕ, _+_, _-_, _≤_, _<_, _^_}
 use native.Mathlib.Omega.{arith}
-use lib.Dec.{ltb, leb}
 use lib.ListN.{length, take, drop}
-use Rattle.format.specs.Answer.{if, Answer, ok, refused, andThen, BadValue, NoRoom, KeyTooLong}
+use Rattle.format.specs.Answer.{Answer, ok, refused, BadValue, NoRoom, KeyTooLong}
 use Rattle.format.specs.Tree.{Ty, Val}
 use Rattle.format.specs.TypeSheet.{isSome, maxGroups, nesting}
 use Rattle.format.specs.ValueSheet.{valueOf, maxValueWords}
 use Rattle.format.specs.Encode.{valBytes, encode, fits, fine, maxKeyBytes}
-use Rattle.format.specs.Calls.{Called, over, written, withValue}
+use Rattle.format.specs.Calls.{Called, written, withValue}
 use Rattle.format.proofs.Tests.{leb-yes, leb-no, ltb-yes}
 use Rattle.format.proofs.TypePlaces.{TypeIn}
 use Rattle.format.proofs.ValuePlaces.{ValueIn, top}
 use Rattle.format.proofs.ValueLaws as values
-use Rattle.fit.specs.Fit.{refusals, numberOf, lowOf, Good, Bad, Gives, One}
+use Rattle.fit.specs.Fit.{refusals, numberOf, lowOf, Gives, One}
 use Rattle.fit.specs.Sum.{sumLen}
 use Rattle.fit.proofs.Sums.{whole-sum}
 use Rattle.key.specs.declared.replacing.Replaced.{Replaced}
 use Rattle.key.specs.declared.replacing.Replaced.the-variants as replacing
-use Rattle.key.specs.Keys.{ReplaceLeft, ValueStands, Puts, Splices, with, put}
+use Rattle.key.specs.Keys.{ReplaceLeft, ValueStands, Splices, with, put}
 use Rattle.key.proofs.SpliceLaws.{whole-long}
 
 no-value : (words pool : List ℕ) → isSome (valueOf words pool) ≡ false → valueOf words pool ≡ none

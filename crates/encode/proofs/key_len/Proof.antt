@@ -1,5 +1,3 @@
-use mathlib.Core.Path.{_≡_, refl, sym, ap, _∙_}
-use native.Mathlib.Omega.{arith}
 use Rattle.encode.proofs.Keys as keys
 use borrow.Author.Needs.{needs}
 use Rattle.encode.proofs.key_len.Statement.{statement}

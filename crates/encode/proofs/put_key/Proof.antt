@@ -1,8 +1,6 @@
-use mathlib.Core.Path.{_≡_, refl, sym, ap, _∙_}
+use mathlib.Core.Path.{refl}
 use native.Mathlib.Omega.{arith}
-use borrow.Author.Tests.{not-true, not-false}
 use Rattle.encode.proofs.Keys as keys
-use Rattle.encode.proofs.Outcomes as laws
 use borrow.Author.Needs.{needs}
 use Rattle.encode.proofs.put_key.Statement.{statement}
 use Rattle.encode.proofs.put_key.Tie as tie

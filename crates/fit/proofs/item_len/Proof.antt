@@ -1,6 +1,5 @@
 use lib.Seq.{slice, length-slice}
 use Rattle.scalar.proofs.Widths.{uint-long}
-use mathlib.Core.Path.{_≡_, refl, sym, ap, _∙_}
 use native.Mathlib.Omega.{arith}
 use Rattle.fit.proofs.Sums as sums
 use borrow.Author.Needs.{needs}

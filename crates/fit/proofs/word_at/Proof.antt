@@ -1,7 +1,5 @@
 use lib.ListN.{List·getD-eq-default}
-use mathlib.Core.Path.{_≡_, refl, sym, ap, _∙_}
-use native.Mathlib.Omega.{arith}
-use Rattle.fit.proofs.Steps as laws
+use mathlib.Core.Path.{sym}
 use borrow.Author.Needs.{needs}
 use Rattle.fit.proofs.word_at.Statement.{statement}
 use Rattle.fit.proofs.word_at.Tie as tie

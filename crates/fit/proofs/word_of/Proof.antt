@@ -1,5 +1,3 @@
-use mathlib.Core.Path.{_≡_, refl, sym, ap, _∙_}
-use native.Mathlib.Omega.{arith}
 use Rattle.fit.proofs.Steps as laws
 use Rattle.fit.proofs.word_of.Statement.{statement}
 use Rattle.fit.proofs.word_of.Tie as tie
