@@ -52,7 +52,8 @@ pub fn differ_at(a: &[u8], b: &[u8]) -> usize
     ensures { λ r. ⌜ DifferAt (now (a .entry)) (now (b .entry)) r ⌝ }
 {
     let wide = past_same(a, b, 0, 64);
-    let mut i: usize = past_same(a, b, wide, 16);
+    let narrow = past_same(a, b, wide, 16);
+    let mut i: usize = past_same(a, b, narrow, 4);
     while i < a.len() {
         if b.len() <= i {
             return i;

@@ -10,10 +10,10 @@ use Rattle.blocks.proofs.comparing.differ_at.Statement.{statement}
 use Rattle.blocks.proofs.comparing.differ_at.Tie as tie
 
 abbrev Inv-loop : tie.InvT-loop
-Inv-loop a b wide i₀ i = (i ≤ length a) × (i ≤ length b) × Same a b 0 i
+Inv-loop a b wide narrow i₀ i = (i ≤ length a) × (i ≤ length b) × Same a b 0 i
 
 abbrev μ-loop : tie.MeasureT-loop
-μ-loop a b wide i₀ i = length a - i
+μ-loop a b wide narrow i₀ i = length a - i
 
 past-same-requires : tie.Need-past-same-requires Inv-loop μ-loop
 past-same-requires c κs = search needs
@@ -21,8 +21,11 @@ past-same-requires c κs = search needs
 past-same-requires-2 : tie.Need-past-same-requires-2 Inv-loop μ-loop
 past-same-requires-2 c κs = search needs
 
+past-same-requires-3 : tie.Need-past-same-requires-3 Inv-loop μ-loop
+past-same-requires-3 c κs = search needs
+
 loop-holds : tie.Need-loop-holds Inv-loop μ-loop
-loop-holds c = (omega arith, omega arith, span-join (λ k. getD (c .before .before .before .before .args .a .now) k 0 ≡ getD (c .before .before .before .before .args .b .now) k 0) 0 (c .before .past-same .result) (c .past-same2 .result) (c .before .past-same .ensures .3) (c .past-same2 .ensures .3))
+loop-holds c = (omega arith, omega arith, span-join (λ k. getD (c .before .before .before .before .before .args .a .now) k 0 ≡ getD (c .before .before .before .before .before .args .b .now) k 0) 0 (c .before .past-same2 .result) (c .past-same3 .result) (span-join (λ k. getD (c .before .before .before .before .before .args .a .now) k 0 ≡ getD (c .before .before .before .before .before .args .b .now) k 0) 0 (c .before .before .past-same .result) (c .before .past-same2 .result) (c .before .before .past-same .ensures .3) (c .before .past-same2 .ensures .3)) (c .past-same3 .ensures .3))
 
 returns : tie.Need-returns Inv-loop μ-loop
 returns c = record { in-a = c .before .before .loop .inv .0; in-b = c .before .before .loop .inv .1; same = c .before .before .loop .inv .2; differ = λ h g. absurd (omega arith) }
@@ -43,7 +46,7 @@ loop-less : tie.Need-loop-less Inv-loop μ-loop
 loop-less c = omega arith
 
 loop-again : tie.Need-loop-again Inv-loop μ-loop
-loop-again c = (omega arith, omega arith, span-one (λ k. getD (c .before .before .before .before .before .before .before .before .before .before .args .a .now) k 0 ≡ getD (c .before .before .before .before .before .before .before .before .before .before .args .b .now) k 0) 0 (c .before .before .before .before .before .loop .i) (c .before .before .before .before .before .loop .inv .2) (c .if2 .left))
+loop-again c = (omega arith, omega arith, span-one (λ k. getD (c .before .before .before .before .before .before .before .before .before .before .before .args .a .now) k 0 ≡ getD (c .before .before .before .before .before .before .before .before .before .before .before .args .b .now) k 0) 0 (c .before .before .before .before .before .loop .i) (c .before .before .before .before .before .loop .inv .2) (c .if2 .left))
 
 returns-3 : tie.Need-returns-3 Inv-loop μ-loop
 returns-3 c = record { in-a = c .before .loop .inv .0; in-b = c .before .loop .inv .1; same = c .before .loop .inv .2; differ = λ h g. absurd (omega arith) }
@@ -56,6 +59,7 @@ differ-at-spec =
     μ-loop
     past-same-requires
     past-same-requires-2
+    past-same-requires-3
     loop-holds
     returns
     shared-slice-read-if2
