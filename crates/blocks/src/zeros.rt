@@ -60,8 +60,8 @@ fn find_zero(s: &[u8], from: usize) -> usize
     requires { ⌜ from ≤ length (now s) ⌝ }
     ensures { λ r. ⌜ ZeroFrom (now (s .entry)) from r ⌝ }
 {
-    let wide = past_clear(s, from, 32);
-    let word = past_clear(s, wide, 8);
+    let wide = past_clear(s, from, 64);
+    let word = past_clear(s, wide, 16);
     let half = past_clear(s, word, 4);
     let mut i: usize = clear_rest(s, from, half);
     while i < s.len() {
