@@ -2,6 +2,5 @@
 pub mod Spans
 pub mod Put
 pub mod Moves
-pub mod Words
 pub mod Counts
 pub mod Orders

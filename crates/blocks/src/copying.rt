@@ -7,8 +7,8 @@ ghost use lib.Seq.{slice};
 ghost use Rattle.format.specs.Fields.{put};
 ghost use Rattle.blocks.specs.Zeros.{NoZero};
 
-// Copies src[i..e] to dst from o on, by one loop.
-fn copy_long(dst: &mut [u8], o: usize, src: &[u8], i: usize, e: usize)
+// Copies src[i..e] to dst from o on.
+pub fn copy_to(dst: &mut [u8], o: usize, src: &[u8], i: usize, e: usize)
     requires { ⌜ (i ≤ e) × (e ≤ length (now src)) × (o + (e - i) ≤ length (now dst)) ⌝ }
     ensures { λ _. ⌜ now (dst .exit) ≡ put (now (dst .entry)) o (slice i e (now (src .entry))) ⌝ }
 {
@@ -21,67 +21,6 @@ fn copy_long(dst: &mut [u8], o: usize, src: &[u8], i: usize, e: usize)
     }
 }
 
-// Copies w bytes, at most eight. All are read before one is written, so that they go as one word.
-fn copy_word(dst: &mut [u8], o: usize, src: &[u8], i: usize, w: usize)
-    requires { ⌜ (w ≤ 8) × (i + w ≤ length (now src)) × (o + w ≤ length (now dst)) ⌝ }
-    ensures { λ _. ⌜ now (dst .exit) ≡ put (now (dst .entry)) o (slice i (i + w) (now (src .entry))) ⌝ }
-{
-    let mut word: [u8; 8] = [0; 8];
-    let mut j: usize = 0;
-    while j < w {
-        word[j] = src[i + j];
-        j += 1;
-    }
-    let mut k: usize = 0;
-    while k < w {
-        dst[o + k] = word[k];
-        k += 1;
-    }
-}
-
-// Copies src[i..e] by its first w bytes and its last, which may overlap.
-fn copy_ends(dst: &mut [u8], o: usize, src: &[u8], i: usize, e: usize, w: usize)
-    requires { ⌜ (w ≤ 8) × (i + w ≤ e) × (e ≤ i + w + w) × (e ≤ length (now src)) × (o + (e - i) ≤ length (now dst)) ⌝ }
-    ensures { λ _. ⌜ now (dst .exit) ≡ put (now (dst .entry)) o (slice i e (now (src .entry))) ⌝ }
-{
-    copy_word(dst, o, src, i, w);
-    copy_word(dst, o + (e - w - i), src, e - w, w);
-}
-
-// The same for 16 to 32 bytes, by the first and the last sixteen.
-fn copy_halves(dst: &mut [u8], o: usize, src: &[u8], i: usize, e: usize)
-    requires { ⌜ (i + 16 ≤ e) × (e ≤ i + 32) × (e ≤ length (now src)) × (o + (e - i) ≤ length (now dst)) ⌝ }
-    ensures { λ _. ⌜ now (dst .exit) ≡ put (now (dst .entry)) o (slice i e (now (src .entry))) ⌝ }
-{
-    copy_ends(dst, o, src, i, i + 16, 8);
-    copy_ends(dst, o + (e - 16 - i), src, e - 16, e, 8);
-}
-
-// Copies src[i..e] to dst from o on: few bytes by words, more by a loop.
-pub fn copy_to(dst: &mut [u8], o: usize, src: &[u8], i: usize, e: usize)
-    requires { ⌜ (i ≤ e) × (e ≤ length (now src)) × (o + (e - i) ≤ length (now dst)) ⌝ }
-    ensures { λ _. ⌜ now (dst .exit) ≡ put (now (dst .entry)) o (slice i e (now (src .entry))) ⌝ }
-{
-    let n = e - i;
-    if n < 4 {
-        copy_long(dst, o, src, i, e);
-        return;
-    }
-    if n <= 8 {
-        copy_ends(dst, o, src, i, e, 4);
-        return;
-    }
-    if n <= 16 {
-        copy_ends(dst, o, src, i, e, 8);
-        return;
-    }
-    if n <= 32 {
-        copy_halves(dst, o, src, i, e);
-        return;
-    }
-    copy_long(dst, o, src, i, e);
-}
-
 // Copies to dst from o on the blocks that src begins with and that have no zero, and returns the place behind them: tested and copied in one pass.
 pub fn copy_clear(dst: &mut [u8], o: usize, src: &[u8]) -> usize
     requires { ⌜ o + length (now src) ≤ length (now dst) ⌝ }
@@ -89,7 +28,7 @@ pub fn copy_clear(dst: &mut [u8], o: usize, src: &[u8]) -> usize
 {
     let mut i: usize = 0;
     while clear(src, i, 64) {
-        copy_long(dst, o + i, src, i, i + 64);
+        copy_to(dst, o + i, src, i, i + 64);
         i += 64;
     }
     i

@@ -24,14 +24,14 @@ loop-holds c = (omega arith, λ k a b. absurd (omega arith), refl, sym (put-none
 clear-requires : tie.Need-clear-requires Inv-loop μ-loop
 clear-requires c κs = search needs
 
-add-copy-long : tie.Need-add-copy-long Inv-loop μ-loop
-add-copy-long c = omega arith
+add-copy-to : tie.Need-add-copy-to Inv-loop μ-loop
+add-copy-to c = omega arith
 
-add-copy-long-2 : tie.Need-add-copy-long-2 Inv-loop μ-loop
-add-copy-long-2 c = let e = (c .before .before .clear .ensures (c .before .if1 .taken)) in omega arith
+add-copy-to-2 : tie.Need-add-copy-to-2 Inv-loop μ-loop
+add-copy-to-2 c = let e = (c .before .before .clear .ensures (c .before .if1 .taken)) in omega arith
 
-copy-long-requires : tie.Need-copy-long-requires Inv-loop μ-loop
-copy-long-requires c κs = let e = (c .before .before .clear .ensures (c .before .if1 .taken)) in (omega arith, omega arith, omega arith)
+copy-to-requires : tie.Need-copy-to-requires Inv-loop μ-loop
+copy-to-requires c κs = let e = (c .before .before .clear .ensures (c .before .if1 .taken)) in (omega arith, omega arith, omega arith)
 
 add-i : tie.Need-add-i Inv-loop μ-loop
 add-i c = let e = (c .before .before .before .before .before .clear .ensures (c .before .before .before .before .if1 .taken)) in omega arith
@@ -40,7 +40,7 @@ loop-less : tie.Need-loop-less Inv-loop μ-loop
 loop-less c = let e = (c .before .before .before .before .before .clear .ensures (c .before .before .before .before .if1 .taken)) in omega arith
 
 loop-again : tie.Need-loop-again Inv-loop μ-loop
-loop-again c = let e = (c .before .before .before .before .before .clear .ensures (c .before .before .before .before .if1 .taken)) in let w = put-front (c .before .before .before .before .before .before .before .before .before .args .dst .now) (c .before .before .before .before .before .before .before .before .before .args .src .now) (c .before .before .before .before .before .before .before .before .before .args .o) (c .before .before .before .before .before .before .loop .i) (c .before .before .before .before .before .before .loop .i + 64) (omega arith) (e .0) (omega arith) (c .before .before .before .before .before .before .loop .inv .3) (c .before .before .copy-long .ensures) in (e .0, span-join (λ k. getD (c .before .before .before .before .before .before .before .before .before .args .src .now) k 0 ≡ 0 → ⊥) 0 (c .before .before .before .before .before .before .loop .i) (c .before .before .before .before .before .before .loop .i + 64) (c .before .before .before .before .before .before .loop .inv .1) (e .1), w .0, w .1)
+loop-again c = let e = (c .before .before .before .before .before .clear .ensures (c .before .before .before .before .if1 .taken)) in let w = put-front (c .before .before .before .before .before .before .before .before .before .args .dst .now) (c .before .before .before .before .before .before .before .before .before .args .src .now) (c .before .before .before .before .before .before .before .before .before .args .o) (c .before .before .before .before .before .before .loop .i) (c .before .before .before .before .before .before .loop .i + 64) (omega arith) (e .0) (omega arith) (c .before .before .before .before .before .before .loop .inv .3) (c .before .before .copy-to .ensures) in (e .0, span-join (λ k. getD (c .before .before .before .before .before .before .before .before .before .args .src .now) k 0 ≡ 0 → ⊥) 0 (c .before .before .before .before .before .before .loop .i) (c .before .before .before .before .before .before .loop .i + 64) (c .before .before .before .before .before .before .loop .inv .1) (e .1), w .0, w .1)
 
 same-length : tie.Need-same-length Inv-loop μ-loop
 same-length c = c .before .before .loop .inv .2
@@ -56,9 +56,9 @@ copy-clear-spec =
     μ-loop
     loop-holds
     clear-requires
-    add-copy-long
-    add-copy-long-2
-    copy-long-requires
+    add-copy-to
+    add-copy-to-2
+    copy-to-requires
     add-i
     loop-less
     loop-again

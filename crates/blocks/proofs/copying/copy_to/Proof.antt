@@ -1,12 +1,12 @@
--- `copy_long` meets its contract.
+-- `copy_to` meets its contract.
 use mathlib.Core.Path.{_≡_}
 use Prim.Native.Nat.{_-_, _≤_}
 use native.Mathlib.Omega.{arith}
 use lib.Seq.{slice, length-slice, slice-empty}
 use Rattle.blocks.proofs.Put.{Left, left-all, left-store, left-none}
 use Rattle.blocks.proofs.Spans.{slice-one}
-use Rattle.blocks.proofs.copying.copy_long.Statement.{statement}
-use Rattle.blocks.proofs.copying.copy_long.Tie as tie
+use Rattle.blocks.proofs.copying.copy_to.Statement.{statement}
+use Rattle.blocks.proofs.copying.copy_to.Tie as tie
 
 abbrev Inv-loop : tie.InvT-loop
 Inv-loop dst₀ o src i e j₀ k₀ dst j k = (j ≤ e) × Left dst₀ o (slice i e src) dst k (slice j e src)
@@ -41,8 +41,8 @@ same-length c = c .before .loop .inv .1 .long
 returns : tie.Need-returns Inv-loop μ-loop
 returns c = let e : c .before .loop .j ≡ c .before .before .args .e = omega arith in left-none (rw (e, slice-empty) at (c .before .loop .inv .1))
 
-pub copy-long-spec : {M : Type 1} → statement M
-copy-long-spec =
+pub copy-to-spec : {M : Type 1} → statement M
+copy-to-spec =
     tie.close
     (tie.spec
     Inv-loop
