@@ -6,7 +6,7 @@ use native.Mathlib.Nat.{add-zero, add-assoc}
 use native.Mathlib.Numerals.{add-one}
 use native.Mathlib.Omega.{arith}
 use lib.ListN.{length, set, take, drop, take-append-drop, length-append, length-take, length-drop, length-set}
-use lib.Seq.{slice, length-slice, length-take-le, take-at, drop-at, drop-drop, drop-append-add, set-split, take-set-le}
+use lib.Seq.{slice, length-slice, length-take-le, take-at, drop-at, drop-drop, set-split, take-set-le}
 use Rattle.format.specs.Fields.{put}
 use Rattle.blocks.proofs.Spans.{slice-join}
 
@@ -48,34 +48,6 @@ put-slices d s o i j e h k l r =
     let a = length-slice i j s (omega arith) in
     let b = length-slice j e s l in
     rw (slice-join s i j e h k l, ← a) (put-put d o (slice i j s) (slice j e s) (omega arith))
-
--- a put over a put that is not longer
-put-again : (x : List ℕ) (p : ℕ) (b c : List ℕ) → length b ≤ length c → p + length c ≤ length x → put (put x p b) p c ≡ put x p c
-put-again x p b c h r =
-    let n : length (take p x) ≡ p = length-take-le p x (omega arith) in
-    let m : length c ≡ length b + (length c - length b) = omega arith in
-    let q : p + length b + (length c - length b) ≡ p + length c = omega arith in
-    let after : drop (p + length c) (put x p b) ≡ drop (p + length c) x =
-    sym (drop-drop (length c) p (put x p b))
-    ∙ ap (drop (length c)) (drop-at (take p x) (b ++ drop (p + length b) x) p n)
-    ∙ ap (λ (k : ℕ). drop k (b ++ drop (p + length b) x)) m
-    ∙ drop-append-add b (drop (p + length b) x) (length c - length b)
-    ∙ drop-drop (length c - length b) (p + length b) x
-    ∙ ap (λ (k : ℕ). drop k x) q in
-    rw (take-at (take p x) (b ++ drop (p + length b) x) p n, after)
-
--- a part of a list that overlaps the part before it, put in its place
-pub put-over : (d s : List ℕ) (o i m j e : ℕ) → i ≤ m → m ≤ j → j ≤ e → e ≤ length s → o + (e - i) ≤ length d
-    → put (put d o (slice i j s)) (o + (m - i)) (slice m e s) ≡ put d o (slice i e s)
-put-over d s o i m j e h k g l r =
-    let a = length-slice i m s (omega arith) in
-    let b = length-slice m j s (omega arith) in
-    let c = length-slice m e s l in
-    let x = put d o (slice i m s) in
-    let n : length x ≡ length d = length-put d o (slice i m s) (omega arith) in
-    ap (λ (y : List ℕ). put y (o + (m - i)) (slice m e s)) (sym (put-slices d s o i m j h k (omega arith) (omega arith)))
-    ∙ put-again x (o + (m - i)) (slice m j s) (slice m e s) (omega arith) (omega arith)
-    ∙ put-slices d s o i m e h (omega arith) l r
 
 -- the next of the parts that a list begins with, as the step of a loop
 pub put-front : (d s : List ℕ) (o i e : ℕ) {d₁ d₂ : List ℕ} → i ≤ e → e ≤ length s → o + e ≤ length d → d₁ ≡ put d o (slice 0 i s) → d₂ ≡ put d₁ (o + i) (slice i e s)

@@ -37,33 +37,13 @@ fn past_clear(s: &[u8], from: usize, k: usize) -> usize
     i
 }
 
-// The same where fewer than four bytes are left: a block of four that ends with them overlaps those that were tested.
-fn clear_rest(s: &[u8], from: usize, at: usize) -> usize
-    requires { ⌜ (from ≤ at) × (at ≤ length (now s)) × NoZero (now s) from at ⌝ }
-    ensures { λ r. ⌜ (from ≤ r) × (r ≤ length (now (s .entry))) × NoZero (now (s .entry)) from r ⌝ }
-{
-    let n = s.len();
-    if n - from < 4 {
-        return at;
-    }
-    if 4 < n - at {
-        return at;
-    }
-    if clear(s, n - 4, 4) {
-        return n;
-    }
-    at
-}
-
 // The place of the first zero from a place on, or the length. Wide blocks first, then narrow ones, then bytes.
 fn find_zero(s: &[u8], from: usize) -> usize
     requires { ⌜ from ≤ length (now s) ⌝ }
     ensures { λ r. ⌜ ZeroFrom (now (s .entry)) from r ⌝ }
 {
     let wide = past_clear(s, from, 64);
-    let word = past_clear(s, wide, 16);
-    let half = past_clear(s, word, 4);
-    let mut i: usize = clear_rest(s, from, half);
+    let mut i: usize = past_clear(s, wide, 8);
     while i < s.len() {
         if s[i] == 0 {
             return i;

@@ -10,10 +10,10 @@ use Rattle.blocks.proofs.zeros.find_zero.Statement.{statement}
 use Rattle.blocks.proofs.zeros.find_zero.Tie as tie
 
 abbrev Inv-loop : tie.InvT-loop
-Inv-loop s from wide word half i₀ i = (from ≤ i) × (i ≤ length s) × NoZero s from i
+Inv-loop s from wide i₀ i = (from ≤ i) × (i ≤ length s) × NoZero s from i
 
 abbrev μ-loop : tie.MeasureT-loop
-μ-loop s from wide word half i₀ i = length s - i
+μ-loop s from wide i₀ i = length s - i
 
 past-clear-requires : tie.Need-past-clear-requires Inv-loop μ-loop
 past-clear-requires c κs = search needs
@@ -21,14 +21,8 @@ past-clear-requires c κs = search needs
 past-clear-requires-2 : tie.Need-past-clear-requires-2 Inv-loop μ-loop
 past-clear-requires-2 c κs = search needs
 
-past-clear-requires-3 : tie.Need-past-clear-requires-3 Inv-loop μ-loop
-past-clear-requires-3 c κs = search needs
-
-clear-rest-requires : tie.Need-clear-rest-requires Inv-loop μ-loop
-clear-rest-requires c κs = let word = span-join (λ k. getD (c .before .before .before .before .args .s .now) k 0 ≡ 0 → ⊥) (c .before .before .before .before .args .from) (c .before .before .past-clear .result) (c .before .past-clear2 .result) (c .before .before .past-clear .ensures .2) (c .before .past-clear2 .ensures .2) in (omega arith, omega arith, span-join (λ k. getD (c .before .before .before .before .args .s .now) k 0 ≡ 0 → ⊥) (c .before .before .before .before .args .from) (c .before .past-clear2 .result) (c .past-clear3 .result) word (c .past-clear3 .ensures .2))
-
 loop-holds : tie.Need-loop-holds Inv-loop μ-loop
-loop-holds c = c .clear-rest .ensures
+loop-holds c = (omega arith, omega arith, span-join (λ k. getD (c .before .before .before .args .s .now) k 0 ≡ 0 → ⊥) (c .before .before .before .args .from) (c .before .past-clear .result) (c .past-clear2 .result) (c .before .past-clear .ensures .2) (c .past-clear2 .ensures .2))
 
 shared-slice-read-if1 : tie.Need-shared-slice-read-if1 Inv-loop μ-loop
 shared-slice-read-if1 c = omega arith
@@ -43,7 +37,7 @@ loop-less : tie.Need-loop-less Inv-loop μ-loop
 loop-less c = omega arith
 
 loop-again : tie.Need-loop-again Inv-loop μ-loop
-loop-again c = (omega arith, omega arith, span-one (λ k. getD (c .before .before .before .before .before .before .before .before .before .args .s .now) k 0 ≡ 0 → ⊥) (c .before .before .before .before .before .before .before .before .before .args .from) (c .before .before .before .loop .i) (c .before .before .before .loop .inv .2) (c .if1 .left))
+loop-again c = (omega arith, omega arith, span-one (λ k. getD (c .before .before .before .before .before .before .before .args .s .now) k 0 ≡ 0 → ⊥) (c .before .before .before .before .before .before .before .args .from) (c .before .before .before .loop .i) (c .before .before .before .loop .inv .2) (c .if1 .left))
 
 returns-2 : tie.Need-returns-2 Inv-loop μ-loop
 returns-2 c = record { after = c .before .loop .inv .0; inside = c .before .loop .inv .1; none = c .before .loop .inv .2; zero = λ h. absurd (omega arith) }
@@ -56,8 +50,6 @@ find-zero-spec =
     μ-loop
     past-clear-requires
     past-clear-requires-2
-    past-clear-requires-3
-    clear-rest-requires
     loop-holds
     shared-slice-read-if1
     returns
