@@ -11,7 +11,7 @@ use borrow.Author.Tests.{eq-eqb, ne-eqb}
 use Rattle.format.specs.Tree.{Ty, Alts}
 use Rattle.format.specs.Sheet.{altCount, tyWords}
 use Rattle.format.specs.TypeSheet.{maxGroups, typeAt, nesting, altNestings}
-use Rattle.sheet.specs.Places.{Ends, Chosen, Picks, IsPlain, Plain, Rows}
+use Rattle.sheet.specs.Places.{Ends, Chosen, Picks, Plain, Rows}
 use Rattle.format.proofs.TypePlaces.{TypeIn, AltsIn, kind-is, union-in, alt-in}
 use Rattle.format.proofs.Choose.{choose, pick}
 use Rattle.format.proofs.Tests.{Test, holds, fails, ltb-test}
@@ -125,11 +125,6 @@ no-pair w at tag left place inv some-left l h = go (ltb-test place (length w))
     go : {t : Bool} → Test (place < length w) (length w ≤ place) t → Picks w at tag 0 l
     go (holds k) = no-end w at tag left place inv some-left 0 (type-none w (place + 1) maxGroups (omega arith)) l refl
     go (fails k) = no-room w at tag left place inv some-left l k
-
--- a plain alternative without the tag is passed
-pub go-plain : (w : List ℕ) (at tag left place : ℕ) → Left w at tag left place → 0 < left → 2 ≤ length w - place → IsPlain (getD w (place + 1) 0) → (x : ℕ) → x ≡ getD w place 0 → (x ≡ tag → ⊥) → Left w at tag (left - 1) (place + 2)
-go-plain w at tag left place inv some-left h p x same n =
-    go-on w at tag left place inv some-left (place + 2) (plain-end w place maxGroups (omega arith) (p .0) (p .1)) x same n
 
 -- rows of plain alternatives without the tag are passed
 rows-left : (m : ℕ) (w : List ℕ) (at tag left place : ℕ) → Left w at tag left place → m ≤ left → place + 2 * m ≤ length w → Plain w place tag m → Left w at tag (left - m) (place + 2 * m)

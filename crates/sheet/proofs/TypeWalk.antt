@@ -366,10 +366,6 @@ alts-short w at count g left place f more h = go (ltb-test place (length w))
     go (holds l) = alts-fail w at count g left place f more l 0 (none-left w (place + 1) g (omega arith)) refl
     go (fails l) = alts-out w at count g left place f more l
 
--- a plain alternative more
-pub alts-plain : (w : List ℕ) (at count g left place : ℕ) → Others w at count g left place → 0 < left → 2 ≤ length w - place → IsPlain (getD w (place + 1) 0) → Others w at count g (left - 1) (place + 2)
-alts-plain w at count g left place f more h p = alts-go w at count g left place f more (omega arith) (place + 2) (plain-end w place g (omega arith) (p .0) (p .1)) (λ z. omega arith)
-
 -- plain alternatives behind the first
 pub plain-next : (w : List ℕ) (at tag m : ℕ) → Plain w at tag (suc m) → Plain w (at + 2) tag m
 plain-next w at tag m h i l =

@@ -1,5 +1,5 @@
 // A union's alternatives: the one with a tag, and the place behind some of them.
-use crate::rows::plain;
+use crate::rows::flat_end;
 use crate::rows::plain_rows;
 use crate::types::alternatives_end;
 use crate::types::type_end;
@@ -43,8 +43,9 @@ pub fn alternative(ty: &[u32], at: usize, tag: u64) -> Choice
                 left: left - 1,
             };
         }
-        if plain(ty[inside]) {
-            place += 2;
+        let next = flat_end(ty, inside, 320);
+        if next != 0 {
+            place = next;
             left -= 1;
         } else {
             place = type_end(ty, inside, 320);

@@ -1,9 +1,10 @@
 // Plain types (Int, Str, Bytes): a record's fields, and alternatives in rows of eight: a row is tested with no exit inside, so that it becomes vector code.
 ghost use mathlib.Core.Path.{_≡_};
 ghost use mathlib.Core.Bool.{true};
-ghost use Prim.Native.Nat.{_+_, _≤_};
-ghost use lib.ListN.{length};
-ghost use Rattle.sheet.specs.Places.{IsPlain, Plain, PlainTypes, Rows};
+ghost use Prim.Native.Nat.{_+_, _≤_, _<_};
+ghost use lib.ListN.{length, drop};
+ghost use Rattle.format.specs.TypeSheet.{typeAt};
+ghost use Rattle.sheet.specs.Places.{Ends, IsPlain, Plain, PlainTypes, Rows};
 
 fn wide(x: u32) -> u64
     ensures { λ r. ⌜ r ≡ x ⌝ }
@@ -35,6 +36,31 @@ pub fn plain_types(ty: &[u32], at: usize, count: u32) -> bool
         i += 1;
     }
     true
+}
+
+// The place behind the type at a place if it is plain or a record of plain fields, else 0: no call of itself, so that a loop over alternatives can hold it.
+pub fn flat_end(ty: &[u32], at: usize, groups: usize) -> usize
+    requires { ⌜ at < length (now ty) ⌝ }
+    ensures { λ r. ⌜ ((r ≡ 0 → ⊥) → Ends (now (ty .entry)) (at + 1) (typeAt groups (drop at (now (ty .entry)))) r) ⌝ }
+{
+    let kind = ty[at];
+    if plain(kind) {
+        return at + 1;
+    }
+    if kind != 5 {
+        return 0;
+    }
+    if groups == 0 {
+        return 0;
+    }
+    if ty.len() - at < 2 {
+        return 0;
+    }
+    let count = ty[at + 1];
+    if plain_types(ty, at + 2, count) {
+        return at + 2 + count as usize;
+    }
+    0
 }
 
 // Are the eight alternatives at a place plain, and none with the tag?

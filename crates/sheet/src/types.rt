@@ -1,5 +1,5 @@
 // Type sheets: where a type ends, and whether a sheet is admitted.
-use crate::rows::plain;
+use crate::rows::flat_end;
 use crate::rows::plain_rows;
 use crate::rows::plain_types;
 ghost use mathlib.Core.Path.{_≡_};
@@ -108,7 +108,7 @@ fn fields_end(ty: &[u32], at: usize, count: u32, groups: usize) -> usize
     place
 }
 
-// The place behind `count` alternatives from `at` on; 0 if they do not stand there. One of a plain type is passed in place.
+// The place behind `count` alternatives from `at` on; 0 if they do not stand there. One of a plain type or of plain fields is passed in place.
 pub fn alternatives_end(ty: &[u32], at: usize, count: u32, groups: usize) -> usize
     requires { ⌜ at ≤ length (now ty) ⌝ }
     ensures { λ r. ⌜ Ends (now (ty .entry)) at (alts (typeAt groups) count (drop at (now (ty .entry)))) r ⌝ }
@@ -120,8 +120,9 @@ pub fn alternatives_end(ty: &[u32], at: usize, count: u32, groups: usize) -> usi
         if ty.len() - place < 2 {
             return 0;
         }
-        if plain(ty[place + 1]) {
-            place += 2;
+        let next = flat_end(ty, place + 1, groups);
+        if next != 0 {
+            place = next;
             left -= 1;
         } else {
             place = type_end(ty, place + 1, groups);

@@ -4,13 +4,13 @@ use Prim.Native.Nat.{_+_, _≤_}
 use lib.ListN.{length, drop}
 use Rattle.format.specs.TypeSheet.{typeAt}
 use Rattle.sheet.proofs.TypeWalk.{inside}
-use Rattle.sheet.proofs.AltWalk.{Left, no-union, no-count, past-rows, none-left, no-pair, picked, no-end, go-on, go-plain}
+use Rattle.sheet.proofs.AltWalk.{Left, no-union, no-count, past-rows, none-left, no-pair, picked, no-end, go-on}
 use Rattle.sheet.proofs.alternatives.alternative.Statement.{statement}
 use Rattle.sheet.proofs.alternatives.alternative.Tie as tie
 use Rattle.sheet.proofs.alternatives.alternative.Reads as reads
 use Rattle.sheet.proofs.alternatives.alternative.Lts as lts
 use Rattle.sheet.proofs.alternatives.wide.Reads as wide-reads
-use Rattle.sheet.proofs.rows.plain.Reads as plain-reads
+use Rattle.sheet.proofs.rows.flat_end.Reads as flat-end-reads
 use Rattle.sheet.proofs.rows.plain_rows.Reads as plain-rows-reads
 use Rattle.sheet.proofs.types.type_end.Reads as type-end-reads
 
@@ -101,30 +101,18 @@ wide-requires : tie.Need-wide-requires Inv-loop μ-loop
 wide-requires c κs = search needs
 
 -- src/alternatives.rt:43:23
-sub-t21 : tie.Need-sub-t21 Inv-loop μ-loop
-sub-t21 c = search needs
+sub-t22 : tie.Need-sub-t22 Inv-loop μ-loop
+sub-t22 c = search needs
 
 -- src/alternatives.rt:41:13
 returns-4 : tie.Need-returns-4 Inv-loop μ-loop
 returns-4 c = let inv = c .before .before .before .before .before .loop .inv .0 in search picked
 
--- src/alternatives.rt:46:18
-mul-plain : tie.Need-mul-plain Inv-loop μ-loop
-mul-plain c = search needs
+-- src/alternatives.rt:46:13
+flat-end-requires : tie.Need-flat-end-requires Inv-loop μ-loop
+flat-end-requires c κs = omega arith
 
--- src/alternatives.rt:46:18
-shared-slice-read-plain : tie.Need-shared-slice-read-plain Inv-loop μ-loop
-shared-slice-read-plain c = search needs
-
--- src/alternatives.rt:46:12
-plain-requires : tie.Need-plain-requires Inv-loop μ-loop
-plain-requires c κs = search needs
-
--- src/alternatives.rt:47:13
-add-place-3 : tie.Need-add-place-3 Inv-loop μ-loop
-add-place-3 c = omega arith
-
--- src/alternatives.rt:48:13
+-- src/alternatives.rt:49:13
 sub-left-2 : tie.Need-sub-left-2 Inv-loop μ-loop
 sub-left-2 c = search needs
 
@@ -134,17 +122,17 @@ loop-less c = search needs
 
 -- src/alternatives.rt:35:5
 loop-again : tie.Need-loop-again Inv-loop μ-loop
-loop-again c = (go-plain (c .before .before .before .before .before .before .before .before .before .before .before .before .before .before .args .ty .now) (c .before .before .before .before .before .before .before .before .before .before .before .before .before .before .args .at) (c .before .before .before .before .before .before .before .before .before .before .before .before .before .before .args .tag) (c .before .before .before .before .before .before .before .before .loop .left) (c .before .before .before .before .before .before .before .before .loop .place) (c .before .before .before .before .before .before .before .before .loop .inv .0) (c .before .before .before .before .before .before .before .loop-test .taken) (c .before .before .before .before .before .before .if3 .left) (c .before .plain .ensures (c .if5 .taken)) (c .before .before .before .before .wide .result) (c .before .before .before .before .wide .ensures) (c .before .before .before .if4 .left), omega arith)
+loop-again c = (go-on (c .before .before .before .before .before .before .before .before .before .before .before .before .before .args .ty .now) (c .before .before .before .before .before .before .before .before .before .before .before .before .before .args .at) (c .before .before .before .before .before .before .before .before .before .before .before .before .before .args .tag) (c .before .before .before .before .before .before .before .loop .left) (c .before .before .before .before .before .before .before .loop .place) (c .before .before .before .before .before .before .before .loop .inv .0) (c .before .before .before .before .before .before .loop-test .taken) (c .before .flat-end .result) (c .before .flat-end .ensures (c .if5 .taken)) (c .before .before .before .wide .result) (c .before .before .before .wide .ensures) (c .before .before .if4 .left), inside (c .before .before .before .before .before .before .before .before .before .before .before .before .before .args .ty .now) (c .before .before .before .before .before .before .before .loop .place + 1 + 1) (c .before .flat-end .result) (typeAt 320 (drop (c .before .before .before .before .before .before .before .loop .place + 1) (c .before .before .before .before .before .before .before .before .before .before .before .before .before .args .ty .now))) (c .before .flat-end .ensures (c .if5 .taken)))
 
--- src/alternatives.rt:50:13
+-- src/alternatives.rt:51:13
 type-end-requires : tie.Need-type-end-requires Inv-loop μ-loop
 type-end-requires c κs = search needs
 
--- src/alternatives.rt:52:17
+-- src/alternatives.rt:53:17
 returns-5 : tie.Need-returns-5 Inv-loop μ-loop
-returns-5 c = let inv = c .before .before .before .before .before .before .before .before .before .before .loop .inv .0 in search no-end
+returns-5 c = let inv = c .before .before .before .before .before .before .before .before .before .loop .inv .0 in search no-end
 
--- src/alternatives.rt:54:13
+-- src/alternatives.rt:55:13
 sub-left-3 : tie.Need-sub-left-3 Inv-loop μ-loop
 sub-left-3 c = search needs
 
@@ -154,7 +142,7 @@ loop-less-2 c = search needs
 
 -- src/alternatives.rt:35:5
 loop-again-2 : tie.Need-loop-again-2 Inv-loop μ-loop
-loop-again-2 c = (go-on (c .before .before .before .before .before .before .before .before .before .before .before .before .before .before .before .before .args .ty .now) (c .before .before .before .before .before .before .before .before .before .before .before .before .before .before .before .before .args .at) (c .before .before .before .before .before .before .before .before .before .before .before .before .before .before .before .before .args .tag) (c .before .before .before .before .before .before .before .before .before .before .loop .left) (c .before .before .before .before .before .before .before .before .before .before .loop .place) (c .before .before .before .before .before .before .before .before .before .before .loop .inv .0) (c .before .before .before .before .before .before .before .before .before .loop-test .taken) (c .before .type-end .result) (c .before .type-end .ensures) (c .before .before .before .before .before .before .wide .result) (c .before .before .before .before .before .before .wide .ensures) (c .before .before .before .before .before .if4 .left), inside (c .before .before .before .before .before .before .before .before .before .before .before .before .before .before .before .before .args .ty .now) (c .before .before .before .before .before .before .before .before .before .before .loop .place + 1 + 1) (c .before .type-end .result) (typeAt 320 (drop (c .before .before .before .before .before .before .before .before .before .before .loop .place + 1) (c .before .before .before .before .before .before .before .before .before .before .before .before .before .before .before .before .args .ty .now))) (c .before .type-end .ensures))
+loop-again-2 c = (go-on (c .before .before .before .before .before .before .before .before .before .before .before .before .before .before .before .args .ty .now) (c .before .before .before .before .before .before .before .before .before .before .before .before .before .before .before .args .at) (c .before .before .before .before .before .before .before .before .before .before .before .before .before .before .before .args .tag) (c .before .before .before .before .before .before .before .before .before .loop .left) (c .before .before .before .before .before .before .before .before .before .loop .place) (c .before .before .before .before .before .before .before .before .before .loop .inv .0) (c .before .before .before .before .before .before .before .before .loop-test .taken) (c .before .type-end .result) (c .before .type-end .ensures) (c .before .before .before .before .before .wide .result) (c .before .before .before .before .before .wide .ensures) (c .before .before .before .before .if4 .left), inside (c .before .before .before .before .before .before .before .before .before .before .before .before .before .before .before .args .ty .now) (c .before .before .before .before .before .before .before .before .before .loop .place + 1 + 1) (c .before .type-end .result) (typeAt 320 (drop (c .before .before .before .before .before .before .before .before .before .loop .place + 1) (c .before .before .before .before .before .before .before .before .before .before .before .before .before .before .before .args .ty .now))) (c .before .type-end .ensures))
 
 -- src/alternatives.rt:22:1
 returns-6 : tie.Need-returns-6 Inv-loop μ-loop
@@ -186,12 +174,9 @@ alternative-spec =
     mul-wide
     shared-slice-read-wide
     wide-requires
-    sub-t21
+    sub-t22
     returns-4
-    mul-plain
-    shared-slice-read-plain
-    plain-requires
-    add-place-3
+    flat-end-requires
     sub-left-2
     loop-less
     loop-again

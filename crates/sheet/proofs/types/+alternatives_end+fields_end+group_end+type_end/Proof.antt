@@ -1,7 +1,7 @@
 use borrow.Author.Needs.{needs}
 use native.Mathlib.Omega.{arith}
 use lib.ListN.{length}
-use Rattle.sheet.proofs.TypeWalk.{none-left, zero-kind, scalar, short, unknown, reference, too-deep, record-end, union-end, Fields, fields-start, fields-done, fields-fail, fields-go, fields-into, Others, rows-start, alts-done, alts-fail, alts-go, alts-short, alts-plain, plain-record}
+use Rattle.sheet.proofs.TypeWalk.{none-left, zero-kind, scalar, short, unknown, reference, too-deep, record-end, union-end, Fields, fields-start, fields-done, fields-fail, fields-go, fields-into, Others, rows-start, alts-done, alts-fail, alts-go, alts-short, plain-record}
 use Prim.Native.Nat.{ℕ, _+_, _*_, _<_}
 use borrow.Fn.Kinds.{In}
 use borrow.Fn.PlainCycle.{Measures, is, falls, and}
@@ -17,7 +17,7 @@ use Rattle.sheet.proofs.types.+alternatives_end+fields_end+group_end+ty
 use Rattle.sheet.proofs.types.type_end.Reads as type-end
 use Rattle.sheet.proofs.types.type_end.Kinds as type-end-kinds
 use Rattle.sheet.proofs.types.+alternatives_end+fields_end+group_end+type_end.Lts-type_end as type-end-lts
-use Rattle.sheet.proofs.rows.plain.Reads as plain-reads
+use Rattle.sheet.proofs.rows.flat_end.Reads as flat-end-reads
 use Rattle.sheet.proofs.rows.plain_rows.Reads as plain-rows-reads
 use Rattle.sheet.proofs.rows.plain_types.Reads as plain-types-reads
 use Rattle.sheet.proofs.types.last_record.Reads as last-record-reads
@@ -81,107 +81,83 @@ abbrev alternatives-end-μ-loop : alternatives-end-lts.MeasureT-loop
 alternatives-end-μ-loop ty at count groups rows left₀ place₀ left place = left
 
 -- src/types.rt:116:9
-alternatives-end-plain-rows-requires : (t : ℕ) → alternatives-end-lts.Need-plain-rows-requires (plain-rows-reads.Asked, plain-rows-reads.Learnt, plain-reads.Asked, plain-reads.Learnt, type-end-below t, type-end.Post) (alternatives-end-at t) alternatives-end.Post alternatives-end-Inv-loop alternatives-end-μ-loop
+alternatives-end-plain-rows-requires : (t : ℕ) → alternatives-end-lts.Need-plain-rows-requires (plain-rows-reads.Asked, plain-rows-reads.Learnt, flat-end-reads.Asked, flat-end-reads.Learnt, type-end-below t, type-end.Post) (alternatives-end-at t) alternatives-end.Post alternatives-end-Inv-loop alternatives-end-μ-loop
 alternatives-end-plain-rows-requires t c κs = omega arith
 
 -- src/types.rt:117:20
-alternatives-end-sub-left : (t : ℕ) → alternatives-end-lts.Need-sub-left (plain-rows-reads.Asked, plain-rows-reads.Learnt, plain-reads.Asked, plain-reads.Learnt, type-end-below t, type-end.Post) (alternatives-end-at t) alternatives-end.Post alternatives-end-Inv-loop alternatives-end-μ-loop
+alternatives-end-sub-left : (t : ℕ) → alternatives-end-lts.Need-sub-left (plain-rows-reads.Asked, plain-rows-reads.Learnt, flat-end-reads.Asked, flat-end-reads.Learnt, type-end-below t, type-end.Post) (alternatives-end-at t) alternatives-end.Post alternatives-end-Inv-loop alternatives-end-μ-loop
 alternatives-end-sub-left t c = omega (arith, c .plain-rows .ensures .few)
 
 -- src/types.rt:118:31
-alternatives-end-cast-place : (t : ℕ) → alternatives-end-lts.Need-cast-place (plain-rows-reads.Asked, plain-rows-reads.Learnt, plain-reads.Asked, plain-reads.Learnt, type-end-below t, type-end.Post) (alternatives-end-at t) alternatives-end.Post alternatives-end-Inv-loop alternatives-end-μ-loop
+alternatives-end-cast-place : (t : ℕ) → alternatives-end-lts.Need-cast-place (plain-rows-reads.Asked, plain-rows-reads.Learnt, flat-end-reads.Asked, flat-end-reads.Learnt, type-end-below t, type-end.Post) (alternatives-end-at t) alternatives-end.Post alternatives-end-Inv-loop alternatives-end-μ-loop
 alternatives-end-cast-place t c = search needs
 
 -- src/types.rt:118:26
-alternatives-end-mul-place : (t : ℕ) → alternatives-end-lts.Need-mul-place (plain-rows-reads.Asked, plain-rows-reads.Learnt, plain-reads.Asked, plain-reads.Learnt, type-end-below t, type-end.Post) (alternatives-end-at t) alternatives-end.Post alternatives-end-Inv-loop alternatives-end-μ-loop
+alternatives-end-mul-place : (t : ℕ) → alternatives-end-lts.Need-mul-place (plain-rows-reads.Asked, plain-rows-reads.Learnt, flat-end-reads.Asked, flat-end-reads.Learnt, type-end-below t, type-end.Post) (alternatives-end-at t) alternatives-end.Post alternatives-end-Inv-loop alternatives-end-μ-loop
 alternatives-end-mul-place t c = omega (arith, c .plain-rows .ensures .inside)
 
 -- src/types.rt:118:21
-alternatives-end-add-place : (t : ℕ) → alternatives-end-lts.Need-add-place (plain-rows-reads.Asked, plain-rows-reads.Learnt, plain-reads.Asked, plain-reads.Learnt, type-end-below t, type-end.Post) (alternatives-end-at t) alternatives-end.Post alternatives-end-Inv-loop alternatives-end-μ-loop
+alternatives-end-add-place : (t : ℕ) → alternatives-end-lts.Need-add-place (plain-rows-reads.Asked, plain-rows-reads.Learnt, flat-end-reads.Asked, flat-end-reads.Learnt, type-end-below t, type-end.Post) (alternatives-end-at t) alternatives-end.Post alternatives-end-Inv-loop alternatives-end-μ-loop
 alternatives-end-add-place t c = omega (arith, c .plain-rows .ensures .inside)
 
 -- src/types.rt:119:5
-alternatives-end-loop-holds : (t : ℕ) → alternatives-end-lts.Need-loop-holds (plain-rows-reads.Asked, plain-rows-reads.Learnt, plain-reads.Asked, plain-reads.Learnt, type-end-below t, type-end.Post) (alternatives-end-at t) alternatives-end.Post alternatives-end-Inv-loop alternatives-end-μ-loop
+alternatives-end-loop-holds : (t : ℕ) → alternatives-end-lts.Need-loop-holds (plain-rows-reads.Asked, plain-rows-reads.Learnt, flat-end-reads.Asked, flat-end-reads.Learnt, type-end-below t, type-end.Post) (alternatives-end-at t) alternatives-end.Post alternatives-end-Inv-loop alternatives-end-μ-loop
 alternatives-end-loop-holds t c = search rows-start
 
 -- src/types.rt:120:12
-alternatives-end-sub-if1 : (t : ℕ) → alternatives-end-lts.Need-sub-if1 (plain-rows-reads.Asked, plain-rows-reads.Learnt, plain-reads.Asked, plain-reads.Learnt, type-end-below t, type-end.Post) (alternatives-end-at t) alternatives-end.Post alternatives-end-Inv-loop alternatives-end-μ-loop
+alternatives-end-sub-if1 : (t : ℕ) → alternatives-end-lts.Need-sub-if1 (plain-rows-reads.Asked, plain-rows-reads.Learnt, flat-end-reads.Asked, flat-end-reads.Learnt, type-end-below t, type-end.Post) (alternatives-end-at t) alternatives-end.Post alternatives-end-Inv-loop alternatives-end-μ-loop
 alternatives-end-sub-if1 t c = search needs
 
 -- src/types.rt:121:13
-alternatives-end-returns : (t : ℕ) → alternatives-end-lts.Need-returns (plain-rows-reads.Asked, plain-rows-reads.Learnt, plain-reads.Asked, plain-reads.Learnt, type-end-below t, type-end.Post) (alternatives-end-at t) alternatives-end.Post alternatives-end-Inv-loop alternatives-end-μ-loop
+alternatives-end-returns : (t : ℕ) → alternatives-end-lts.Need-returns (plain-rows-reads.Asked, plain-rows-reads.Learnt, flat-end-reads.Asked, flat-end-reads.Learnt, type-end-below t, type-end.Post) (alternatives-end-at t) alternatives-end.Post alternatives-end-Inv-loop alternatives-end-μ-loop
 alternatives-end-returns t c = search alts-short
 
--- src/types.rt:123:21
-alternatives-end-add-plain : (t : ℕ) → alternatives-end-lts.Need-add-plain (plain-rows-reads.Asked, plain-rows-reads.Learnt, plain-reads.Asked, plain-reads.Learnt, type-end-below t, type-end.Post) (alternatives-end-at t) alternatives-end.Post alternatives-end-Inv-loop alternatives-end-μ-loop
-alternatives-end-add-plain t c = search needs
+-- src/types.rt:123:33
+alternatives-end-add-flat-end : (t : ℕ) → alternatives-end-lts.Need-add-flat-end (plain-rows-reads.Asked, plain-rows-reads.Learnt, flat-end-reads.Asked, flat-end-reads.Learnt, type-end-below t, type-end.Post) (alternatives-end-at t) alternatives-end.Post alternatives-end-Inv-loop alternatives-end-μ-loop
+alternatives-end-add-flat-end t c = search needs
 
--- src/types.rt:123:18
-alternatives-end-mul-plain : (t : ℕ) → alternatives-end-lts.Need-mul-plain (plain-rows-reads.Asked, plain-rows-reads.Learnt, plain-reads.Asked, plain-reads.Learnt, type-end-below t, type-end.Post) (alternatives-end-at t) alternatives-end.Post alternatives-end-Inv-loop alternatives-end-μ-loop
-alternatives-end-mul-plain t c = search needs
+-- src/types.rt:123:13
+alternatives-end-flat-end-requires : (t : ℕ) → alternatives-end-lts.Need-flat-end-requires (plain-rows-reads.Asked, plain-rows-reads.Learnt, flat-end-reads.Asked, flat-end-reads.Learnt, type-end-below t, type-end.Post) (alternatives-end-at t) alternatives-end.Post alternatives-end-Inv-loop alternatives-end-μ-loop
+alternatives-end-flat-end-requires t c κs = omega arith
 
--- src/types.rt:123:18
-alternatives-end-shared-slice-read-plain :
-    (t : ℕ) → alternatives-end-lts.Need-shared-slice-read-plain (
-      plain-rows-reads.Asked,
-      plain-rows-reads.Learnt,
-      plain-reads.Asked,
-      plain-reads.Learnt,
-      type-end-below t,
-      type-end.Post,
-    )
-    (alternatives-end-at t)
-    alternatives-end.Post
-    alternatives-end-Inv-loop
-    alternatives-end-μ-loop
-alternatives-end-shared-slice-read-plain t c = search needs
-
--- src/types.rt:123:12
-alternatives-end-plain-requires : (t : ℕ) → alternatives-end-lts.Need-plain-requires (plain-rows-reads.Asked, plain-rows-reads.Learnt, plain-reads.Asked, plain-reads.Learnt, type-end-below t, type-end.Post) (alternatives-end-at t) alternatives-end.Post alternatives-end-Inv-loop alternatives-end-μ-loop
-alternatives-end-plain-requires t c κs = search needs
-
--- src/types.rt:124:13
-alternatives-end-add-place-2 : (t : ℕ) → alternatives-end-lts.Need-add-place-2 (plain-rows-reads.Asked, plain-rows-reads.Learnt, plain-reads.Asked, plain-reads.Learnt, type-end-below t, type-end.Post) (alternatives-end-at t) alternatives-end.Post alternatives-end-Inv-loop alternatives-end-μ-loop
-alternatives-end-add-place-2 t c = omega arith
-
--- src/types.rt:125:13
-alternatives-end-sub-left-2 : (t : ℕ) → alternatives-end-lts.Need-sub-left-2 (plain-rows-reads.Asked, plain-rows-reads.Learnt, plain-reads.Asked, plain-reads.Learnt, type-end-below t, type-end.Post) (alternatives-end-at t) alternatives-end.Post alternatives-end-Inv-loop alternatives-end-μ-loop
+-- src/types.rt:126:13
+alternatives-end-sub-left-2 : (t : ℕ) → alternatives-end-lts.Need-sub-left-2 (plain-rows-reads.Asked, plain-rows-reads.Learnt, flat-end-reads.Asked, flat-end-reads.Learnt, type-end-below t, type-end.Post) (alternatives-end-at t) alternatives-end.Post alternatives-end-Inv-loop alternatives-end-μ-loop
 alternatives-end-sub-left-2 t c = search needs
 
 -- src/types.rt:119:5
-alternatives-end-loop-less : (t : ℕ) → alternatives-end-lts.Need-loop-less (plain-rows-reads.Asked, plain-rows-reads.Learnt, plain-reads.Asked, plain-reads.Learnt, type-end-below t, type-end.Post) (alternatives-end-at t) alternatives-end.Post alternatives-end-Inv-loop alternatives-end-μ-loop
+alternatives-end-loop-less : (t : ℕ) → alternatives-end-lts.Need-loop-less (plain-rows-reads.Asked, plain-rows-reads.Learnt, flat-end-reads.Asked, flat-end-reads.Learnt, type-end-below t, type-end.Post) (alternatives-end-at t) alternatives-end.Post alternatives-end-Inv-loop alternatives-end-μ-loop
 alternatives-end-loop-less t c = search needs
 
 -- src/types.rt:119:5
-alternatives-end-loop-again : (t : ℕ) → alternatives-end-lts.Need-loop-again (plain-rows-reads.Asked, plain-rows-reads.Learnt, plain-reads.Asked, plain-reads.Learnt, type-end-below t, type-end.Post) (alternatives-end-at t) alternatives-end.Post alternatives-end-Inv-loop alternatives-end-μ-loop
-alternatives-end-loop-again t c = let p = c .before .plain .ensures (c .if2 .taken) in search alts-plain
+alternatives-end-loop-again : (t : ℕ) → alternatives-end-lts.Need-loop-again (plain-rows-reads.Asked, plain-rows-reads.Learnt, flat-end-reads.Asked, flat-end-reads.Learnt, type-end-below t, type-end.Post) (alternatives-end-at t) alternatives-end.Post alternatives-end-Inv-loop alternatives-end-μ-loop
+alternatives-end-loop-again t c = alts-go (c .before .before .before .before .before .before .before .args .ty .now) (c .before .before .before .before .before .before .before .args .at) (c .before .before .before .before .before .before .before .args .count) (c .before .before .before .before .before .before .before .args .groups) (c .before .before .before .before .loop .left) (c .before .before .before .before .loop .place) (c .before .before .before .before .loop .inv) (c .before .before .before .loop-test .taken) (omega arith) (c .before .flat-end .result) (c .before .flat-end .ensures (c .if2 .taken)) (c .if2 .taken)
 
--- src/types.rt:127:34
-alternatives-end-add-type-end : (t : ℕ) → alternatives-end-lts.Need-add-type-end (plain-rows-reads.Asked, plain-rows-reads.Learnt, plain-reads.Asked, plain-reads.Learnt, type-end-below t, type-end.Post) (alternatives-end-at t) alternatives-end.Post alternatives-end-Inv-loop alternatives-end-μ-loop
+-- src/types.rt:128:34
+alternatives-end-add-type-end : (t : ℕ) → alternatives-end-lts.Need-add-type-end (plain-rows-reads.Asked, plain-rows-reads.Learnt, flat-end-reads.Asked, flat-end-reads.Learnt, type-end-below t, type-end.Post) (alternatives-end-at t) alternatives-end.Post alternatives-end-Inv-loop alternatives-end-μ-loop
 alternatives-end-add-type-end t c = search needs
 
--- src/types.rt:127:13
-alternatives-end-type-end-requires : (t : ℕ) → alternatives-end-lts.Need-type-end-requires (plain-rows-reads.Asked, plain-rows-reads.Learnt, plain-reads.Asked, plain-reads.Learnt, type-end-below t, type-end.Post) (alternatives-end-at t) alternatives-end.Post alternatives-end-Inv-loop alternatives-end-μ-loop
+-- src/types.rt:128:13
+alternatives-end-type-end-requires : (t : ℕ) → alternatives-end-lts.Need-type-end-requires (plain-rows-reads.Asked, plain-rows-reads.Learnt, flat-end-reads.Asked, flat-end-reads.Learnt, type-end-below t, type-end.Post) (alternatives-end-at t) alternatives-end.Post alternatives-end-Inv-loop alternatives-end-μ-loop
 alternatives-end-type-end-requires t c κs = (omega arith, tt)
 
--- src/types.rt:129:17
-alternatives-end-returns-2 : (t : ℕ) → alternatives-end-lts.Need-returns-2 (plain-rows-reads.Asked, plain-rows-reads.Learnt, plain-reads.Asked, plain-reads.Learnt, type-end-below t, type-end.Post) (alternatives-end-at t) alternatives-end.Post alternatives-end-Inv-loop alternatives-end-μ-loop
-alternatives-end-returns-2 t c = let here : c .before .before .before .before .before .before .before .loop .place < length (c .before .before .before .before .before .before .before .before .before .before .args .ty .now) = omega arith in search alts-fail
+-- src/types.rt:130:17
+alternatives-end-returns-2 : (t : ℕ) → alternatives-end-lts.Need-returns-2 (plain-rows-reads.Asked, plain-rows-reads.Learnt, flat-end-reads.Asked, flat-end-reads.Learnt, type-end-below t, type-end.Post) (alternatives-end-at t) alternatives-end.Post alternatives-end-Inv-loop alternatives-end-μ-loop
+alternatives-end-returns-2 t c = let here : c .before .before .before .before .before .before .loop .place < length (c .before .before .before .before .before .before .before .before .before .args .ty .now) = omega arith in search alts-fail
 
--- src/types.rt:131:13
-alternatives-end-sub-left-3 : (t : ℕ) → alternatives-end-lts.Need-sub-left-3 (plain-rows-reads.Asked, plain-rows-reads.Learnt, plain-reads.Asked, plain-reads.Learnt, type-end-below t, type-end.Post) (alternatives-end-at t) alternatives-end.Post alternatives-end-Inv-loop alternatives-end-μ-loop
+-- src/types.rt:132:13
+alternatives-end-sub-left-3 : (t : ℕ) → alternatives-end-lts.Need-sub-left-3 (plain-rows-reads.Asked, plain-rows-reads.Learnt, flat-end-reads.Asked, flat-end-reads.Learnt, type-end-below t, type-end.Post) (alternatives-end-at t) alternatives-end.Post alternatives-end-Inv-loop alternatives-end-μ-loop
 alternatives-end-sub-left-3 t c = search needs
 
 -- src/types.rt:119:5
-alternatives-end-loop-less-2 : (t : ℕ) → alternatives-end-lts.Need-loop-less-2 (plain-rows-reads.Asked, plain-rows-reads.Learnt, plain-reads.Asked, plain-reads.Learnt, type-end-below t, type-end.Post) (alternatives-end-at t) alternatives-end.Post alternatives-end-Inv-loop alternatives-end-μ-loop
+alternatives-end-loop-less-2 : (t : ℕ) → alternatives-end-lts.Need-loop-less-2 (plain-rows-reads.Asked, plain-rows-reads.Learnt, flat-end-reads.Asked, flat-end-reads.Learnt, type-end-below t, type-end.Post) (alternatives-end-at t) alternatives-end.Post alternatives-end-Inv-loop alternatives-end-μ-loop
 alternatives-end-loop-less-2 t c = search needs
 
 -- src/types.rt:119:5
-alternatives-end-loop-again-2 : (t : ℕ) → alternatives-end-lts.Need-loop-again-2 (plain-rows-reads.Asked, plain-rows-reads.Learnt, plain-reads.Asked, plain-reads.Learnt, type-end-below t, type-end.Post) (alternatives-end-at t) alternatives-end.Post alternatives-end-Inv-loop alternatives-end-μ-loop
-alternatives-end-loop-again-2 t c = let here : c .before .before .before .before .before .before .before .loop .place < length (c .before .before .before .before .before .before .before .before .before .before .args .ty .now) = omega arith in search alts-go
+alternatives-end-loop-again-2 : (t : ℕ) → alternatives-end-lts.Need-loop-again-2 (plain-rows-reads.Asked, plain-rows-reads.Learnt, flat-end-reads.Asked, flat-end-reads.Learnt, type-end-below t, type-end.Post) (alternatives-end-at t) alternatives-end.Post alternatives-end-Inv-loop alternatives-end-μ-loop
+alternatives-end-loop-again-2 t c = let here : c .before .before .before .before .before .before .loop .place < length (c .before .before .before .before .before .before .before .before .before .args .ty .now) = omega arith in search alts-go
 
 -- src/types.rt:112:1
-alternatives-end-returns-3 : (t : ℕ) → alternatives-end-lts.Need-returns-3 (plain-rows-reads.Asked, plain-rows-reads.Learnt, plain-reads.Asked, plain-reads.Learnt, type-end-below t, type-end.Post) (alternatives-end-at t) alternatives-end.Post alternatives-end-Inv-loop alternatives-end-μ-loop
+alternatives-end-returns-3 : (t : ℕ) → alternatives-end-lts.Need-returns-3 (plain-rows-reads.Asked, plain-rows-reads.Learnt, flat-end-reads.Asked, flat-end-reads.Learnt, type-end-below t, type-end.Post) (alternatives-end-at t) alternatives-end.Post alternatives-end-Inv-loop alternatives-end-μ-loop
 alternatives-end-returns-3 t c = search alts-done
 
 abbrev fields-end-Inv-loop : fields-end-lts.InvT-loop
@@ -397,8 +373,8 @@ pub +alternatives-end+fields-end+group-end+type-end-spec : {M : Type 1} → stat
     close μ-alternatives-end μ-fields-end μ-group-end μ-type-end (λ t. alternatives-end-lts.spec (
       plain-rows-reads.Asked,
       plain-rows-reads.Learnt,
-      plain-reads.Asked,
-      plain-reads.Learnt,
+      flat-end-reads.Asked,
+      flat-end-reads.Learnt,
       type-end-below t,
       type-end.Post,
     )
@@ -414,11 +390,8 @@ pub +alternatives-end+fields-end+group-end+type-end-spec : {M : Type 1} → stat
     (alternatives-end-loop-holds t)
     (alternatives-end-sub-if1 t)
     (alternatives-end-returns t)
-    (alternatives-end-add-plain t)
-    (alternatives-end-mul-plain t)
-    (alternatives-end-shared-slice-read-plain t)
-    (alternatives-end-plain-requires t)
-    (alternatives-end-add-place-2 t)
+    (alternatives-end-add-flat-end t)
+    (alternatives-end-flat-end-requires t)
     (alternatives-end-sub-left-2 t)
     (alternatives-end-loop-less t)
     (alternatives-end-loop-again t)
