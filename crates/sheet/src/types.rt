@@ -1,7 +1,6 @@
 // Type sheets: where a type ends, and whether a sheet is admitted.
 use crate::rows::flat_end;
 use crate::rows::plain_rows;
-use crate::rows::plain_types;
 ghost use mathlib.Core.Path.{_≡_};
 ghost use Prim.Native.Nat.{_+_, _≤_, _<_};
 ghost use lib.ListN.{length, drop, getD};
@@ -34,7 +33,7 @@ pub fn type_end(ty: &[u32], at: usize, groups: usize) -> usize
     group_end(ty, at, groups)
 }
 
-// The place behind the group at `at`; an unknown kind is none. A record of plain fields is no further call.
+// The place behind the group at `at`; an unknown kind is none.
 fn group_end(ty: &[u32], at: usize, groups: usize) -> usize
     requires { ⌜ (at + 1 < length (now ty)) × (4 < getD (now ty) at 0) ⌝ }
     ensures { λ r. ⌜ Ends (now (ty .entry)) (at + 1) (typeAt groups (drop at (now (ty .entry)))) r ⌝ }
@@ -45,9 +44,6 @@ fn group_end(ty: &[u32], at: usize, groups: usize) -> usize
     let kind = ty[at];
     let count = ty[at + 1];
     if kind == 5 {
-        if plain_types(ty, at + 2, count) {
-            return at + 2 + count as usize;
-        }
         return fields_end(ty, at + 2, count, groups - 1);
     }
     if kind == 6 {
