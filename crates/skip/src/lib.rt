@@ -10,7 +10,7 @@ ghost use Rattle.format.specs.Read.{startsFF, endsHere};
 ghost use Rattle.format.specs.Fields.{takenFrom};
 ghost use Rattle.format.specs.Skip.{passBytes, passNull};
 ghost use Rattle.format.specs.Calls.{skipCall};
-ghost use Rattle.skip.specs.Tokens.{skippedOf, tokenOf, escapedNull, passRun, passRecord, passUnion, field, Width, RunEnds, PlainEnds};
+ghost use Rattle.skip.specs.Tokens.{skippedOf, tokenOf, escapedNull, passRun, passRecord, passUnion, field, Width, NumberEnds};
 
 // The place behind the field; or a refusal and its detail.
 pub enum Skipped {
@@ -144,6 +144,37 @@ fn field_token(rest: &[u8], depth: u32, escape: bool) -> Token
     }
 }
 
+// The place in the key behind the field that starts at a place, turn by turn.
+fn walk(bytes: &[u8], start: usize, require_escape_null: bool) -> Skipped
+    ensures { λ r. ⌜ skippedOf r ≡ skipCall (now (bytes .entry)) start «require_escape_null» ⌝ }
+{
+    if bytes.len() < start {
+        return Skipped::Refused(format::UNEXPECTED_EOF, 0);
+    }
+    let mut i = start;
+    let mut depth: u32 = 0;
+    let end = 'groups: loop {
+        while group_ends(&bytes[i..], depth) {
+            i += 1;
+            depth -= 1;
+            if depth == 0 {
+                break 'groups i;
+            }
+        }
+        match field_token(&bytes[i..], depth, require_escape_null) {
+            Token::Passed(inner, n) => {
+                i += n;
+                depth = inner;
+                if depth == 0 {
+                    break 'groups i;
+                }
+            }
+            Token::Bad(no, detail) => return Skipped::Refused(no, detail),
+        }
+    };
+    Skipped::End(end)
+}
+
 // How many bytes follow the mark of an integer or a reference; 9 for another mark.
 fn number_width(mark: u8) -> usize
     ensures { λ r. ⌜ Width mark r ⌝ }
@@ -163,84 +194,28 @@ fn number_width(mark: u8) -> usize
     9
 }
 
-// The place behind the integer, the reference or the run at a place; 0 for anything else. It opens and closes no group.
-fn plain_end(bytes: &[u8], at: usize) -> usize
-    ensures { λ r. ⌜ PlainEnds (now (bytes .entry)) at r ⌝ }
+// The place behind the integer or the reference that starts at a place; 0 for another field. It opens no group, so there is nothing to walk.
+fn number_end(bytes: &[u8], start: usize) -> usize
+    ensures { λ r. ⌜ NumberEnds (now (bytes .entry)) start r ⌝ }
 {
-    if bytes.len() <= at {
+    if bytes.len() <= start {
         return 0;
     }
-    let mark = bytes[at];
-    let width = number_width(mark);
-    if width < 9 {
-        if bytes.len() - at <= width {
-            return 0;
-        }
-        return at + width + 1;
+    let width = number_width(bytes[start]);
+    if 8 < width {
+        return 0;
     }
-    if mark == format::MARK_STRING {
-        return run_end(bytes, at);
+    if bytes.len() - start <= width {
+        return 0;
     }
-    if mark == format::MARK_BYTES {
-        return run_end(bytes, at);
-    }
-    0
-}
-
-// The place behind the run whose mark is at a place, 0 if it does not end.
-fn run_end(bytes: &[u8], at: usize) -> usize
-    requires { ⌜ at < length (now bytes) ⌝ }
-    ensures { λ r. ⌜ RunEnds (now (bytes .entry)) at r ⌝ }
-{
-    match scalar::runs::measure_run(&bytes[at + 1..]) {
-        Measure::Run(end, _) => at + end + 2,
-        Measure::Unended => 0,
-    }
-}
-
-// The place in the key behind the field that starts at a place, turn by turn.
-fn walk(bytes: &[u8], start: usize, require_escape_null: bool) -> Skipped
-    ensures { λ r. ⌜ skippedOf r ≡ skipCall (now (bytes .entry)) start «require_escape_null» ⌝ }
-{
-    if bytes.len() < start {
-        return Skipped::Refused(format::UNEXPECTED_EOF, 0);
-    }
-    let mut i = start;
-    let mut depth: u32 = 0;
-    let end = loop {
-        let next = plain_end(bytes, i);
-        if next != 0 {
-            i = next;
-            if depth == 0 {
-                break i;
-            }
-        } else if group_ends(&bytes[i..], depth) {
-            i += 1;
-            depth -= 1;
-            if depth == 0 {
-                break i;
-            }
-        } else {
-            match field_token(&bytes[i..], depth, require_escape_null) {
-                Token::Passed(inner, n) => {
-                    i += n;
-                    depth = inner;
-                    if depth == 0 {
-                        break i;
-                    }
-                }
-                Token::Bad(no, detail) => return Skipped::Refused(no, detail),
-            }
-        }
-    };
-    Skipped::End(end)
+    start + width + 1
 }
 
 // The place in the key behind the field that starts at a place, any place.
 pub fn skip(bytes: &[u8], start: usize, require_escape_null: bool) -> Skipped
     ensures { λ r. ⌜ skippedOf r ≡ skipCall (now (bytes .entry)) start «require_escape_null» ⌝ }
 {
-    let end = plain_end(bytes, start);
+    let end = number_end(bytes, start);
     if end != 0 {
         return Skipped::End(end);
     }
