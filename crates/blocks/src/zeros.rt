@@ -83,7 +83,7 @@ pub fn count_zeros(s: &[u8]) -> usize
     n + few_zeros(s, i, e) as usize
 }
 
-// The place of the first zero from a place on, or the end. Where zeros are dense it is the first byte.
+// The place of the first zero from a place on, or the end. Four bytes go one by one first: most runs of a key are short.
 pub fn zero_from(s: &[u8], from: usize) -> usize
     requires { ⌜ from ≤ length (now s) ⌝ }
     ensures { λ r. ⌜ ZeroFrom (now (s .entry)) from r ⌝ }
@@ -94,5 +94,20 @@ pub fn zero_from(s: &[u8], from: usize) -> usize
     if s[from] == 0 {
         return from;
     }
-    find_zero(s, from)
+    if s.len() - from < 4 {
+        return find_zero(s, from);
+    }
+    let second = from + 1;
+    if s[second] == 0 {
+        return second;
+    }
+    let third = second + 1;
+    if s[third] == 0 {
+        return third;
+    }
+    let fourth = third + 1;
+    if s[fourth] == 0 {
+        return fourth;
+    }
+    find_zero(s, fourth + 1)
 }
