@@ -112,14 +112,14 @@ module _ (escape : Bool) (depth : ℕ) where
 -- ---- numbers
 
 pub width-none : (m : ℕ) → Width m 9
-width-none m = record { passes = λ h. absurd (omega arith) }
+width-none m = record { some = λ h. absurd (omega arith); passes = λ h. absurd (omega arith) }
 
 pub width-negative : (m : ℕ) → 0x40 ≤ m → m < 0x48 → Width m (0x48 - m)
-width-negative m l h = record { passes = λ _ escape depth s. mark-negative escape depth m s l h }
+width-negative m l h = record { some = λ _ z. omega arith; passes = λ _ escape depth s. mark-negative escape depth m s l h }
 
 pub width-positive : (m : ℕ) → 0x48 ≤ m → m ≤ 0x50 → Width m (m - 0x48)
-width-positive m l h = record { passes = λ _ escape depth s. mark-positive escape depth m s l h }
+width-positive m l h = record { some = λ _ z. omega arith; passes = λ _ escape depth s. mark-positive escape depth m s l h }
 
 pub width-reference : Width 0x51 8
 unfolding passField
-width-reference = record { passes = λ _ escape depth s. refl }
+width-reference = record { some = λ _ z. omega arith; passes = λ _ escape depth s. refl }

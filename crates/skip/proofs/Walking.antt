@@ -1,6 +1,6 @@
 -- The walk of `skip` as the invariant of its loops says it, what is left of it, and what each turn makes of it.
-use mathlib.Core.Bool.{Bool, true, false, _&&_}
-use mathlib.Core.Path.{_≡_, refl, sym, ap, _∙_}
+use mathlib.Core.Bool.{Bool, true, false, _&&_, and-false}
+use mathlib.Core.Path.{_≡_, refl, sym, ap, _∙_, subst}
 use mathlib.Core.List.{List, [], _∷_, _++_}
 use Prim.Native.Nat.{ℕ, _+_, _-_, _≤_, _<_}
 use native.Mathlib.Omega.{arith}
@@ -15,9 +15,9 @@ use Rattle.format.specs.Skip.{passBytes, passField, turn, endOf, skipFrom}
 use Rattle.format.specs.Calls.{skipCall}
 use Rattle.format.proofs.SkipLaws.{ended, walkFrom, walk-step, skip-walk, turn-takes}
 use Rattle.scalar.proofs.Reading.{Front, Took, took, refuses}
-use Rattle.skip.specs.Tokens.{field}
-use Rattle.skip.proofs.Marks.{field-known}
-use Rattle.skip.proofs.Passing.{fixed-passed}
+use Rattle.scalar.proofs.Integers.{big-read}
+use Rattle.skip.specs.Tokens.{field, Width, NumberEnds}
+use Rattle.skip.proofs.Marks.{ends-other, field-known}
 
 -- ---- one turn
 
@@ -66,6 +66,9 @@ module _ (escape : Bool) (depth : ℕ) where
 pub ends-open : (depth : ℕ) (s : List ℕ) → Ending depth s ≡ true → 0 < depth
 ends-open depth s e = ends-some depth s e .0
 
+no-end : (depth : ℕ) (s : List ℕ) → (getD s 0 0 ≡ 0 → ⊥) → Ending depth s ≡ false
+no-end depth s h = rw (ends-other s h) (and-false (ltb 0 depth))
+
 -- ---- the walk
 
 -- at place i, in d open groups, what is left of the walk is the walk from the start
@@ -112,17 +115,51 @@ module _ {escape : Bool} {b : List ℕ} {start i d : ℕ} (w : Walk escape b sta
         let l : length b - length (drop (i + n) b) ≡ i + n = omega (arith, walk-within, length-drop (i + n) b) in
         rw (by-walk escape b start, ← e, l)
 
--- ---- one turn for all
+-- ---- numbers open and close no group
 
--- no group is open at the start, and a number opens none
-pub number-ends : (b : List ℕ) (start w : ℕ) → start + w < length b → ((escape : Bool) (s : List ℕ) → passField escape 0 (getD b start 0) s ≡ passBytes w 0 s) → (escape : Bool) → ok (start + w + 1) ≡ skipCall b start escape
-number-ends b start w h passes escape =
-    let s = drop start b in
-    let l = length-drop start b in
-    let z : start + 0 ≡ start = omega arith in
-    let f : getD s 0 0 ≡ getD b start 0 = getD-drop start b 0 0 ∙ ap (λ (i : ℕ). getD b i 0) z in
-    let e : field escape 0 s ≡ passBytes w 0 (drop 1 s) = field-known escape 0 s (getD b start 0) (omega arith) f ∙ passes escape (drop 1 s) in
-    let p : ok (record { value = 0; used = w + 1 }) ≡ takenFrom s (field escape 0 s) = rw e (fixed-passed s 0 (omega arith) w (omega arith)) in
-    let t = turn-took escape 0 s refl p in
-    let a : start + (w + 1) ≡ start + w + 1 = omega arith in
-    rw (← a) (walk-end (walk-start escape b start (omega arith)) t refl)
+-- the first byte of the rest
+first-byte : (b : List ℕ) (at : ℕ) → getD (drop at b) 0 0 ≡ getD b at 0
+first-byte b at =
+    let z : at + 0 ≡ at = omega arith in
+    getD-drop at b 0 0 ∙ ap (λ (i : ℕ). getD b i 0) z
+
+module _ (b : List ℕ) (at : ℕ) (here : at < length b) (some : getD b at 0 ≡ 0 → ⊥) where
+  -- a turn is a field where no 00 stands
+  turn-mark : (escape : Bool) (depth m : ℕ) → getD b at 0 ≡ m → turn escape depth (drop at b) ≡ passField escape depth m (drop (at + 1) b)
+  turn-mark escape depth m e =
+      let l = length-drop at b in
+      let n : Ending depth (drop at b) ≡ false = no-end depth (drop at b) (λ z. some (sym (first-byte b at) ∙ z)) in
+      let d : drop 1 (drop at b) ≡ drop (at + 1) b = drop-drop 1 at b in
+      turn-field escape depth (drop at b) n ∙ field-known escape depth (drop at b) m (omega arith) (first-byte b at ∙ e) ∙ ap (passField escape depth m) d
+
+pub number-none : (b : List ℕ) (at : ℕ) → NumberEnds b at 0
+number-none b at = record { inside = λ z. absurd (z refl); passes = λ z. absurd (z refl) }
+
+pub number-ends : (b : List ℕ) (at w : ℕ) → Width (getD b at 0) w → w < 9 → at + w < length b → NumberEnds b at (at + w + 1)
+number-ends b at w k h room =
+    let l = length-drop (at + 1) b in
+    let e : at + 1 + w ≡ at + w + 1 = omega arith in
+    record {
+      inside = λ z. (omega arith, omega arith);
+      passes = λ z escape depth.
+          turn-mark b at (omega arith) (k .some h) escape depth (getD b at 0) refl ∙ k .passes h escape depth (drop (at + 1) b) ∙ rw (big-read w (drop (at + 1) b) (omega arith), drop-drop w (at + 1) b, e);
+    }
+
+-- what it says of the turn
+pub number-took : (escape : Bool) (b : List ℕ) (at depth r : ℕ) → NumberEnds b at r → (r ≡ 0 → ⊥) → Took (drop at b) (turn escape depth (drop at b)) depth (r - at)
+number-took escape b at depth r p z =
+    let l = length-drop at b in
+    let i = p .inside z in
+    let e : at + (r - at) ≡ r = omega arith in
+    record { reads = p .passes z escape depth ∙ ap (λ (j : ℕ). Read.got depth (drop j b)) (sym e) ∙ ap (Read.got depth) (sym (drop-drop (r - at) at b)); some = omega arith; within = omega arith }
+
+-- a walk behind a number
+module _ {escape : Bool} {b : List ℕ} {start i d : ℕ} (w : Walk escape b start i d) (r : ℕ) (p : NumberEnds b i r) (z : r ≡ 0 → ⊥) where
+  there : i + (r - i) ≡ r
+  there = let h = p .inside z in omega arith
+
+  pub walk-past-number : (d ≡ 0 → ⊥) → Walk escape b start r d
+  walk-past-number h = subst (λ (j : ℕ). Walk escape b start j d) there (walk-on w (number-took escape b i d r p z) h)
+
+  pub walk-end-number : d ≡ 0 → ok r ≡ skipCall b start escape
+  walk-end-number h = ap {B = Answer ℕ} ok (sym there) ∙ walk-end w (number-took escape b i d r p z) h

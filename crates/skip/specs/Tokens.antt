@@ -2,14 +2,13 @@
 use mathlib.Core.Bool.{Bool}
 use mathlib.Core.List.{List, [], _∷_}
 use mathlib.Core.Path.{_≡_}
-use Prim.Native.Nat.{ℕ, _+_, _<_}
+use Prim.Native.Nat.{ℕ, _+_, _≤_, _<_}
 use lib.Dec.{ltb}
-use lib.ListN.{drop}
+use lib.ListN.{length, drop}
 use Rattle.format.specs.Answer.{if, Answer, ok, refused, UnexpectedEof, UnexpectedTerminator, BadRecord}
 use Rattle.format.specs.Encode.{maxDepth}
 use Rattle.format.specs.Read.{Read, thenRead, getUint, getRun, startsFF}
-use Rattle.format.specs.Skip.{passBytes, passField}
-use Rattle.format.specs.Calls.{skipCall}
+use Rattle.format.specs.Skip.{passBytes, passField, turn}
 use Rattle.format.specs.Fields.{Taken}
 use Rattle.skip.specs.declared.Skipped.{Skipped}
 use Rattle.skip.specs.declared.Skipped.the-variants.{End, Refused}
@@ -47,10 +46,12 @@ field escape depth (m ∷ bs) = passField escape depth m bs
 
 -- ---- numbers: integers and references
 
--- r bytes follow the mark, unless r is 9
+-- r bytes follow the mark, which is not 00, unless r is 9
 pub record Width (m r : ℕ) : Type 0 where
+  pub some : r < 9 → m ≡ 0 → ⊥
   pub passes : r < 9 → (escape : Bool) (depth : ℕ) (s : List ℕ) → passField escape depth m s ≡ passBytes r depth s
 
--- r is the place behind the field at the start, unless r is 0
-pub record NumberEnds (key : List ℕ) (start r : ℕ) : Type 0 where
-  pub ends : (r ≡ 0 → ⊥) → (escape : Bool) → ok r ≡ skipCall key start escape
+-- r is the place behind the field at a place, whatever groups are open, unless r is 0
+pub record NumberEnds (key : List ℕ) (at r : ℕ) : Type 0 where
+  pub inside : (r ≡ 0 → ⊥) → (at < r) × (r ≤ length key)
+  pub passes : (r ≡ 0 → ⊥) → (escape : Bool) (depth : ℕ) → turn escape depth (drop at key) ≡ Read.got depth (drop r key)

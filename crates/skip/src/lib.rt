@@ -144,37 +144,6 @@ fn field_token(rest: &[u8], depth: u32, escape: bool) -> Token
     }
 }
 
-// The place in the key behind the field that starts at a place, turn by turn.
-fn walk(bytes: &[u8], start: usize, require_escape_null: bool) -> Skipped
-    ensures { λ r. ⌜ skippedOf r ≡ skipCall (now (bytes .entry)) start «require_escape_null» ⌝ }
-{
-    if bytes.len() < start {
-        return Skipped::Refused(format::UNEXPECTED_EOF, 0);
-    }
-    let mut i = start;
-    let mut depth: u32 = 0;
-    let end = 'groups: loop {
-        while group_ends(&bytes[i..], depth) {
-            i += 1;
-            depth -= 1;
-            if depth == 0 {
-                break 'groups i;
-            }
-        }
-        match field_token(&bytes[i..], depth, require_escape_null) {
-            Token::Passed(inner, n) => {
-                i += n;
-                depth = inner;
-                if depth == 0 {
-                    break 'groups i;
-                }
-            }
-            Token::Bad(no, detail) => return Skipped::Refused(no, detail),
-        }
-    };
-    Skipped::End(end)
-}
-
 // How many bytes follow the mark of an integer or a reference; 9 for another mark.
 fn number_width(mark: u8) -> usize
     ensures { λ r. ⌜ Width mark r ⌝ }
@@ -194,7 +163,7 @@ fn number_width(mark: u8) -> usize
     9
 }
 
-// The place behind the integer or the reference that starts at a place; 0 for another field. It opens no group, so there is nothing to walk.
+// The place behind the integer or the reference at a place; 0 for another field. It opens and closes no group.
 fn number_end(bytes: &[u8], start: usize) -> usize
     ensures { λ r. ⌜ NumberEnds (now (bytes .entry)) start r ⌝ }
 {
@@ -211,13 +180,42 @@ fn number_end(bytes: &[u8], start: usize) -> usize
     start + width + 1
 }
 
-// The place in the key behind the field that starts at a place, any place.
+// The place in the key behind the field that starts at a place, any place. Numbers are passed one after another, without a token.
 pub fn skip(bytes: &[u8], start: usize, require_escape_null: bool) -> Skipped
     ensures { λ r. ⌜ skippedOf r ≡ skipCall (now (bytes .entry)) start «require_escape_null» ⌝ }
 {
-    let end = number_end(bytes, start);
-    if end != 0 {
-        return Skipped::End(end);
+    if bytes.len() < start {
+        return Skipped::Refused(format::UNEXPECTED_EOF, 0);
     }
-    walk(bytes, start, require_escape_null)
+    let mut i = start;
+    let mut depth: u32 = 0;
+    let end = 'groups: loop {
+        let mut next = number_end(bytes, i);
+        while next != 0 {
+            i = next;
+            if depth == 0 {
+                break 'groups i;
+            }
+            next = number_end(bytes, i);
+        }
+        if group_ends(&bytes[i..], depth) {
+            i += 1;
+            depth -= 1;
+            if depth == 0 {
+                break 'groups i;
+            }
+        } else {
+            match field_token(&bytes[i..], depth, require_escape_null) {
+                Token::Passed(inner, n) => {
+                    i += n;
+                    depth = inner;
+                    if depth == 0 {
+                        break 'groups i;
+                    }
+                }
+                Token::Bad(no, detail) => return Skipped::Refused(no, detail),
+            }
+        }
+    };
+    Skipped::End(end)
 }

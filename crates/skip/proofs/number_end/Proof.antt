@@ -1,6 +1,5 @@
-use mathlib.Core.Path.{refl}
 use native.Mathlib.Omega.{arith}
-use Rattle.skip.proofs.Walking.{number-ends}
+use Rattle.skip.proofs.Walking.{number-none, number-ends}
 use borrow.Author.Needs.{needs}
 use Rattle.skip.proofs.number_end.Statement.{statement}
 use Rattle.skip.proofs.number_end.Tie as tie
@@ -8,41 +7,41 @@ use Rattle.skip.proofs.number_end.Reads as reads
 use Rattle.skip.proofs.number_end.Lts as lts
 use Rattle.skip.proofs.number_width.Reads as number-width-reads
 
--- src/lib.rt:202:9
+-- src/lib.rt:171:9
 returns : tie.Need-returns
-returns c = record { ends = λ z. absurd (z refl) }
+returns c = number-none (c .before .before .args .bytes .now) (c .before .before .args .start)
 
--- src/lib.rt:204:30
+-- src/lib.rt:173:30
 shared-slice-read-number-width : tie.Need-shared-slice-read-number-width
 shared-slice-read-number-width c = search needs
 
--- src/lib.rt:204:9
+-- src/lib.rt:173:9
 number-width-requires : tie.Need-number-width-requires
 number-width-requires c κs = search needs
 
--- src/lib.rt:206:9
+-- src/lib.rt:175:9
 returns-2 : tie.Need-returns-2
-returns-2 c = record { ends = λ z. absurd (z refl) }
+returns-2 c = number-none (c .before .before .before .before .before .args .bytes .now) (c .before .before .before .before .before .args .start)
 
--- src/lib.rt:208:8
+-- src/lib.rt:177:8
 sub-if3 : tie.Need-sub-if3
 sub-if3 c = search needs
 
--- src/lib.rt:209:9
+-- src/lib.rt:178:9
 returns-3 : tie.Need-returns-3
-returns-3 c = record { ends = λ z. absurd (z refl) }
+returns-3 c = number-none (c .before .before .before .before .before .before .args .bytes .now) (c .before .before .before .before .before .before .args .start)
 
--- src/lib.rt:211:5
+-- src/lib.rt:180:5
 add-result : tie.Need-add-result
 add-result c = search needs
 
--- src/lib.rt:211:5
+-- src/lib.rt:180:5
 add-result-2 : tie.Need-add-result-2
 add-result-2 c = search needs
 
--- src/lib.rt:198:1
+-- src/lib.rt:167:1
 returns-4 : tie.Need-returns-4
-returns-4 c = record { ends = λ _. number-ends (c .before .before .before .before .before .before .args .bytes .now) (c .before .before .before .before .before .before .args .start) (c .before .before .number-width .result) (omega arith) (λ escape s. c .before .before .number-width .ensures .passes (omega arith) escape 0 s) }
+returns-4 c = number-ends (c .before .before .before .before .before .before .args .bytes .now) (c .before .before .before .before .before .before .args .start) (c .before .before .number-width .result) (c .before .before .number-width .ensures) (omega arith) (omega arith)
 
 pub number-end-spec : {M : Type 1} → statement M
 number-end-spec =
