@@ -4,7 +4,7 @@ ghost use mathlib.Core.Bool.{true};
 ghost use Prim.Native.Nat.{_+_, _≤_, _<_};
 ghost use lib.ListN.{length};
 ghost use lib.Seq.{slice};
-ghost use Rattle.blocks.specs.Zeros.{NoZero, ZeroFrom, zeros};
+ghost use Rattle.blocks.specs.Zeros.{NoZero, ZeroAmong, ZeroFrom, zeros};
 
 // Are there k bytes from i on, and none of them zero? A flag and not an exit: the loop is one vector test.
 pub fn clear(s: &[u8], i: usize, k: usize) -> bool
@@ -83,31 +83,41 @@ pub fn count_zeros(s: &[u8]) -> usize
     n + few_zeros(s, i, e) as usize
 }
 
-// The place of the first zero from a place on, or the end. Four bytes go one by one first: most runs of a key are short.
+// The place of the first zero among four bytes, or the place behind them.
+fn zero_of_four(s: &[u8], from: usize) -> usize
+    requires { ⌜ from + 4 ≤ length (now s) ⌝ }
+    ensures { λ r. ⌜ ZeroAmong (now (s .entry)) from (from + 4) r ⌝ }
+{
+    if s[from] == 0 {
+        return from;
+    }
+    if s[from + 1] == 0 {
+        return from + 1;
+    }
+    if s[from + 2] == 0 {
+        return from + 2;
+    }
+    if s[from + 3] == 0 {
+        return from + 3;
+    }
+    from + 4
+}
+
+// The place of the first zero from a place on, or the end. Eight bytes go one by one first: most runs of a key are short.
 pub fn zero_from(s: &[u8], from: usize) -> usize
     requires { ⌜ from ≤ length (now s) ⌝ }
     ensures { λ r. ⌜ ZeroFrom (now (s .entry)) from r ⌝ }
 {
-    if s.len() <= from {
-        return from;
-    }
-    if s[from] == 0 {
-        return from;
-    }
-    if s.len() - from < 4 {
+    if s.len() - from < 8 {
         return find_zero(s, from);
     }
-    let second = from + 1;
-    if s[second] == 0 {
-        return second;
+    let near = zero_of_four(s, from);
+    if near < from + 4 {
+        return near;
     }
-    let third = second + 1;
-    if s[third] == 0 {
-        return third;
+    let far = zero_of_four(s, near);
+    if far < near + 4 {
+        return far;
     }
-    let fourth = third + 1;
-    if s[fourth] == 0 {
-        return fourth;
-    }
-    find_zero(s, fourth + 1)
+    find_zero(s, far)
 }

@@ -8,13 +8,10 @@ use lib.ListN.{length, drop, length-drop}
 use borrow.Author.Tests.{lt-ltb, le-ltb}
 use Rattle.format.specs.Answer.{ok, refused}
 use Rattle.format.specs.Encode.{maxDepth}
-use Rattle.format.specs.Read.{Read, getBig, getUint, getRun, startsFF}
+use Rattle.format.specs.Read.{Read, getUint, startsFF}
 use Rattle.format.specs.Fields.{takenFrom}
-use Rattle.format.specs.Skip.{passBytes}
 use Rattle.scalar.proofs.Reading.{Took, taken-got, drop-past}
-use Rattle.scalar.proofs.Integers.{big-short, big-read}
-use Rattle.scalar.proofs.Measures.{Measured}
-use Rattle.skip.specs.Tokens.{escapedNull, passRun, passRecord, passUnion}
+use Rattle.skip.specs.Tokens.{escapedNull, passUnion}
 
 follows-long : (s : List ℕ) → startsFF (drop 1 s) ≡ true → 2 ≤ length s
 unfolding startsFF
@@ -31,12 +28,6 @@ module _ (s : List ℕ) (depth : ℕ) where
   pub null-bare : startsFF (drop 1 s) ≡ false → refused 3 0 ≡ takenFrom s (escapedNull depth (drop 1 s))
   null-bare e = rw e
 
-  pub run-unended : getRun (drop 1 s) ≡ Read.bad 1 0 → refused 1 0 ≡ takenFrom s (passRun depth (drop 1 s))
-  run-unended e = rw e
-
-  pub record-deep : 256 ≤ depth → refused 6 0 ≡ takenFrom s (passRecord depth (drop 1 s))
-  record-deep h = rw (le-ltb depth 256 h)
-
   pub union-deep : 256 ≤ depth → refused 6 0 ≡ takenFrom s (passUnion depth (drop 1 s))
   union-deep h = rw (le-ltb depth 256 h)
 
@@ -47,29 +38,6 @@ module _ (s : List ℕ) (depth : ℕ) where
     -- nothing but the mark
     pub mark-passed : ok (record { value = depth; used = 1 }) ≡ takenFrom s (Read.got depth (drop 1 s))
     mark-passed = taken-got s 1 refl (omega arith)
-
-    pub fixed-passed : (w : ℕ) → w ≤ length s - 1 → ok (record { value = depth; used = w + 1 }) ≡ takenFrom s (passBytes w depth (drop 1 s))
-    fixed-passed w h =
-        let l = length-drop 1 s in
-        let e : w ≤ length (drop 1 s) = omega arith in
-        let r : passBytes w depth (drop 1 s) ≡ Read.got depth (drop (w + 1) s) = rw (big-read w (drop 1 s) e, drop-past w s) in
-        taken-got s (w + 1) r (omega arith)
-
-    pub fixed-short : (w : ℕ) → length s - 1 < w → refused 1 0 ≡ takenFrom s (passBytes w depth (drop 1 s))
-    fixed-short w h =
-        let l = length-drop 1 s in
-        let e : length (drop 1 s) < w = omega arith in
-        rw (big-short w (drop 1 s) e)
-
-    pub run-passed : {e n : ℕ} → Measured (drop 1 s) e n → ok (record { value = depth; used = e + 2 }) ≡ takenFrom s (passRun depth (drop 1 s))
-    run-passed {e} m =
-        let l = length-drop 1 s in
-        let k : e + 1 + 1 ≡ e + 2 = omega arith in
-        let r : passRun depth (drop 1 s) ≡ Read.got depth (drop (e + 2) s) = rw (m .reads, drop-past (e + 1) s, k) in
-        taken-got s (e + 2) r (omega (arith, m .inside))
-
-    pub record-passed : depth < 256 → ok (record { value = depth + 1; used = 1 }) ≡ takenFrom s (passRecord depth (drop 1 s))
-    record-passed h = rw (lt-ltb depth 256 h) (taken-got s 1 refl (omega arith))
 
     pub union-passed : {v n : ℕ} → depth < 256 → Took (drop 1 s) (getUint (drop 1 s)) v n → ok (record { value = depth + 1; used = n + 1 }) ≡ takenFrom s (passUnion depth (drop 1 s))
     union-passed {v} {n} h t =

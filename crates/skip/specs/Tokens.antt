@@ -1,10 +1,10 @@
 -- What the answers mean, by cases, and the parts of `passField` that have a function each.
-use mathlib.Core.Bool.{Bool}
+use mathlib.Core.Bool.{Bool, true, false, _&&_, _||_}
 use mathlib.Core.List.{List, [], _∷_}
 use mathlib.Core.Path.{_≡_}
 use Prim.Native.Nat.{ℕ, _+_, _≤_, _<_}
-use lib.Dec.{ltb}
-use lib.ListN.{length, drop}
+use lib.Dec.{ltb, leb, eqb}
+use lib.ListN.{length, getD, drop}
 use Rattle.format.specs.Answer.{if, Answer, ok, refused, UnexpectedEof, UnexpectedTerminator, BadRecord}
 use Rattle.format.specs.Encode.{maxDepth}
 use Rattle.format.specs.Read.{Read, thenRead, getUint, getRun, startsFF}
@@ -30,11 +30,12 @@ tokenOf (Bad n d) = refused n d
 abbrev pub escapedNull : ℕ → List ℕ → Read ℕ
 escapedNull depth bs = if (startsFF bs) (Read.got depth (drop 1 bs)) (Read.bad UnexpectedTerminator 0)
 
-abbrev pub passRun : ℕ → List ℕ → Read ℕ
-passRun depth bs = thenRead (getRun bs) (λ s rest. Read.got depth rest)
+-- a run is passed over at the depth that stays, whatever its payload
+abbrev pub passed : ℕ → Read (List ℕ) → Read ℕ
+passed depth run = thenRead run (λ s rest. Read.got depth rest)
 
-abbrev pub passRecord : ℕ → List ℕ → Read ℕ
-passRecord depth bs = if (ltb depth maxDepth) (Read.got (depth + 1) bs) (Read.bad BadRecord 0)
+abbrev pub passRun : ℕ → List ℕ → Read ℕ
+passRun depth bs = passed depth (getRun bs)
 
 abbrev pub passUnion : ℕ → List ℕ → Read ℕ
 passUnion depth bs = if (ltb depth maxDepth) (thenRead (getUint bs) (λ d rest. Read.got (depth + 1) rest)) (Read.bad BadRecord 0)
@@ -44,14 +45,33 @@ unfoldable pub field : Bool → ℕ → List ℕ → Read ℕ
 field escape depth [] = Read.bad UnexpectedEof 0
 field escape depth (m ∷ bs) = passField escape depth m bs
 
--- ---- numbers: integers and references
+-- ---- plain fields: integers, references and runs
 
--- r bytes follow the mark, which is not 00, unless r is 9
+abbrev pub numberMark : ℕ → Bool
+numberMark m = leb 0x40 m && leb m 0x51
+
+abbrev pub runMark : ℕ → Bool
+runMark m = eqb m 0x21 || eqb m 0x53
+
+-- r bytes follow the mark of a number, and r is 9 for another mark
 pub record Width (m r : ℕ) : Type 0 where
   pub some : r < 9 → m ≡ 0 → ⊥
   pub passes : r < 9 → (escape : Bool) (depth : ℕ) (s : List ℕ) → passField escape depth m s ≡ passBytes r depth s
+  pub other : 9 ≤ r → numberMark m ≡ false
 
--- r is the place behind the field at a place, whatever groups are open, unless r is 0
-pub record NumberEnds (key : List ℕ) (at r : ℕ) : Type 0 where
+-- r is the place behind the run whose mark is at a place, and 0 if it does not end
+pub record RunEnds (key : List ℕ) (at r : ℕ) : Type 0 where
+  pub inside : (r ≡ 0 → ⊥) → (at < r) × (r ≤ length key)
+  pub passes : (r ≡ 0 → ⊥) → (depth : ℕ) → passRun depth (drop (at + 1) key) ≡ Read.got depth (drop r key)
+  pub cut : r ≡ 0 → (depth : ℕ) → passRun depth (drop (at + 1) key) ≡ Read.bad UnexpectedEof 0
+
+-- r is the place behind the plain field at a place, whatever groups are open, and 0 if none is there or it is cut short
+pub record PlainEnds (key : List ℕ) (at r : ℕ) : Type 0 where
   pub inside : (r ≡ 0 → ⊥) → (at < r) × (r ≤ length key)
   pub passes : (r ≡ 0 → ⊥) → (escape : Bool) (depth : ℕ) → turn escape depth (drop at key) ≡ Read.got depth (drop r key)
+  pub cut : r ≡ 0 → (numberMark (getD key at 0) || runMark (getD key at 0)) ≡ true → (escape : Bool) (depth : ℕ) → turn escape depth (drop at key) ≡ Read.bad UnexpectedEof 0
+
+-- what is left when nothing plain was passed and no record was opened: a plain field is cut short, a record too deep
+pub record Left (escape : Bool) (depth : ℕ) (s : List ℕ) : Type 0 where
+  pub cut : (numberMark (getD s 0 0) || runMark (getD s 0 0)) ≡ true → field escape depth s ≡ Read.bad UnexpectedEof 0
+  pub deep : getD s 0 0 ≡ 0x22 → maxDepth ≤ depth

@@ -1,16 +1,16 @@
 // Skipping one field of a key without its type.
 use scalar::GotInt;
-use scalar::runs::Measure;
 ghost use mathlib.Core.Path.{_≡_};
-ghost use mathlib.Core.Bool.{_&&_};
-ghost use Prim.Native.Nat.{_<_};
-ghost use lib.Dec.{ltb};
-ghost use lib.ListN.{length, drop};
+ghost use mathlib.Core.Bool.{_&&_, _||_};
+ghost use Prim.Native.Nat.{_+_, _<_};
+ghost use lib.Dec.{ltb, eqb};
+ghost use lib.ListN.{length, getD, drop};
+ghost use Rattle.format.specs.Encode.{maxDepth};
 ghost use Rattle.format.specs.Read.{startsFF, endsHere};
 ghost use Rattle.format.specs.Fields.{takenFrom};
-ghost use Rattle.format.specs.Skip.{passBytes, passNull};
+ghost use Rattle.format.specs.Skip.{passNull};
 ghost use Rattle.format.specs.Calls.{skipCall};
-ghost use Rattle.skip.specs.Tokens.{skippedOf, tokenOf, escapedNull, passRun, passRecord, passUnion, field, Width, NumberEnds};
+ghost use Rattle.skip.specs.Tokens.{skippedOf, tokenOf, escapedNull, passUnion, field, Width, RunEnds, PlainEnds, Left};
 
 // The place behind the field; or a refusal and its detail.
 pub enum Skipped {
@@ -24,30 +24,31 @@ enum Token {
     Bad(u32, u64),
 }
 
-// Does FF follow the first byte?
-fn escape_follows(rest: &[u8]) -> bool
-    ensures { λ r. ⌜ r ≡ startsFF (drop 1 (now (rest .entry))) ⌝ }
+// Does FF follow the byte at a place?
+fn escape_follows(bytes: &[u8], at: usize) -> bool
+    requires { ⌜ at < length (now bytes) ⌝ }
+    ensures { λ r. ⌜ r ≡ startsFF (drop (at + 1) (now (bytes .entry))) ⌝ }
 {
-    if rest.len() < 2 {
+    if bytes.len() - at < 2 {
         return false;
     }
-    rest[1] == format::MARK_ESCAPE
+    bytes[at + 1] == format::MARK_ESCAPE
 }
 
 // Is a group open, and does it end here? Its end is a 00 not followed by FF.
-fn group_ends(rest: &[u8], depth: u32) -> bool
-    ensures { λ r. ⌜ r ≡ (ltb 0 depth && endsHere (now (rest .entry))) ⌝ }
+fn group_ends(bytes: &[u8], at: usize, depth: u32) -> bool
+    ensures { λ r. ⌜ r ≡ (ltb 0 depth && endsHere (drop at (now (bytes .entry)))) ⌝ }
 {
     if depth == 0 {
         return false;
     }
-    if rest.len() == 0 {
+    if bytes.len() <= at {
         return false;
     }
-    if rest[0] != format::MARK_TERM {
+    if bytes[at] != format::MARK_TERM {
         return false;
     }
-    !escape_follows(rest)
+    !escape_follows(bytes, at)
 }
 
 // A null that must have its escape.
@@ -55,7 +56,7 @@ fn escaped_null(rest: &[u8], depth: u32) -> Token
     requires { ⌜ 0 < length (now rest) ⌝ }
     ensures { λ r. ⌜ tokenOf r ≡ takenFrom (now (rest .entry)) (escapedNull depth (drop 1 (now (rest .entry)))) ⌝ }
 {
-    if escape_follows(rest) {
+    if escape_follows(rest, 0) {
         Token::Passed(depth, 2)
     } else {
         Token::Bad(format::UNEXPECTED_TERMINATOR, 0)
@@ -76,39 +77,6 @@ fn null_token(rest: &[u8], depth: u32, escape: bool) -> Token
     Token::Passed(depth, 1)
 }
 
-// So many bytes behind the mark.
-fn fixed_token(rest: &[u8], width: usize, depth: u32) -> Token
-    requires { ⌜ (0 < length (now rest)) × (width < 256) ⌝ }
-    ensures { λ r. ⌜ tokenOf r ≡ takenFrom (now (rest .entry)) (passBytes width depth (drop 1 (now (rest .entry)))) ⌝ }
-{
-    if rest.len() - 1 < width {
-        return Token::Bad(format::UNEXPECTED_EOF, 0);
-    }
-    Token::Passed(depth, width + 1)
-}
-
-// A run behind the mark.
-fn run_token(rest: &[u8], depth: u32) -> Token
-    requires { ⌜ 0 < length (now rest) ⌝ }
-    ensures { λ r. ⌜ tokenOf r ≡ takenFrom (now (rest .entry)) (passRun depth (drop 1 (now (rest .entry)))) ⌝ }
-{
-    match scalar::runs::measure_run(&rest[1..]) {
-        Measure::Run(end, _) => Token::Passed(depth, end + 2),
-        Measure::Unended => Token::Bad(format::UNEXPECTED_EOF, 0),
-    }
-}
-
-// A record opens.
-fn record_token(rest: &[u8], depth: u32) -> Token
-    requires { ⌜ 0 < length (now rest) ⌝ }
-    ensures { λ r. ⌜ tokenOf r ≡ takenFrom (now (rest .entry)) (passRecord depth (drop 1 (now (rest .entry)))) ⌝ }
-{
-    if depth < format::MAX_RECORD_DEPTH {
-        return Token::Passed(depth + 1, 1);
-    }
-    Token::Bad(format::BAD_RECORD, 0)
-}
-
 // A union opens. Its depth is checked before its discriminant is read.
 fn union_token(rest: &[u8], depth: u32) -> Token
     requires { ⌜ 0 < length (now rest) ⌝ }
@@ -123,8 +91,9 @@ fn union_token(rest: &[u8], depth: u32) -> Token
     }
 }
 
-// The field that the rest of a key begins with, in so many open groups.
-fn field_token(rest: &[u8], depth: u32, escape: bool) -> Token
+// What the rest of a key begins with where nothing plain can be passed, no record may open and no group ends: a null, a union or a refusal.
+fn left_token(rest: &[u8], depth: u32, escape: bool) -> Token
+    requires { ⌜ Left «escape» depth (now rest) ⌝ }
     ensures { λ r. ⌜ tokenOf r ≡ takenFrom (now (rest .entry)) (field escape depth (now (rest .entry))) ⌝ }
 {
     if rest.len() == 0 {
@@ -133,13 +102,11 @@ fn field_token(rest: &[u8], depth: u32, escape: bool) -> Token
     let mark = rest[0];
     match mark {
         0x00 => null_token(rest, depth, escape),
-        0x21 => run_token(rest, depth),
-        0x53 => run_token(rest, depth),
-        0x22 => record_token(rest, depth),
         0x52 => union_token(rest, depth),
-        0x51 => fixed_token(rest, 8, depth),
-        0x40..=0x47 => fixed_token(rest, (0x48 - mark) as usize, depth),
-        0x48..=0x50 => fixed_token(rest, (mark - 0x48) as usize, depth),
+        0x22 => Token::Bad(format::BAD_RECORD, 0),
+        0x21 => Token::Bad(format::UNEXPECTED_EOF, 0),
+        0x53 => Token::Bad(format::UNEXPECTED_EOF, 0),
+        0x40..=0x51 => Token::Bad(format::UNEXPECTED_EOF, 0),
         _ => Token::Bad(format::UNEXPECTED_MARK, mark as u64),
     }
 }
@@ -163,24 +130,62 @@ fn number_width(mark: u8) -> usize
     9
 }
 
-// The place behind the integer or the reference at a place; 0 for another field. It opens and closes no group.
-fn number_end(bytes: &[u8], start: usize) -> usize
-    ensures { λ r. ⌜ NumberEnds (now (bytes .entry)) start r ⌝ }
+// The place behind the run whose mark is at a place; 0 if it does not end.
+fn run_end(bytes: &[u8], at: usize) -> usize
+    requires { ⌜ at < length (now bytes) ⌝ }
+    ensures { λ r. ⌜ RunEnds (now (bytes .entry)) at r ⌝ }
 {
-    if bytes.len() <= start {
-        return 0;
+    let mut i = at + 1;
+    loop {
+        let z = blocks::zero_from(bytes, i);
+        if bytes.len() <= z {
+            return 0;
+        }
+        if !escape_follows(bytes, z) {
+            return z + 1;
+        }
+        i = z + 2;
     }
-    let width = number_width(bytes[start]);
-    if 8 < width {
-        return 0;
-    }
-    if bytes.len() - start <= width {
-        return 0;
-    }
-    start + width + 1
 }
 
-// The place in the key behind the field that starts at a place, any place. Numbers are passed one after another, without a token.
+// The place behind the integer, the reference or the run at a place; 0 for anything else, and where it is cut short. It opens and closes no group.
+fn plain_end(bytes: &[u8], at: usize) -> usize
+    ensures { λ r. ⌜ PlainEnds (now (bytes .entry)) at r ⌝ }
+{
+    if bytes.len() <= at {
+        return 0;
+    }
+    let mark = bytes[at];
+    let width = number_width(mark);
+    if width < 9 {
+        if bytes.len() - at <= width {
+            return 0;
+        }
+        return at + width + 1;
+    }
+    if mark == format::MARK_STRING {
+        return run_end(bytes, at);
+    }
+    if mark == format::MARK_BYTES {
+        return run_end(bytes, at);
+    }
+    0
+}
+
+// Does a record open here, and may it?
+fn record_opens(bytes: &[u8], at: usize, depth: u32) -> bool
+    ensures { λ r. ⌜ r ≡ (ltb at (length (now (bytes .entry))) && (eqb (getD (now (bytes .entry)) at 0) 0x22 && ltb depth maxDepth)) ⌝ }
+{
+    if bytes.len() <= at {
+        return false;
+    }
+    if bytes[at] != format::MARK_RECORD {
+        return false;
+    }
+    depth < format::MAX_RECORD_DEPTH
+}
+
+// The place in the key behind the field that starts at a place, any place. What is plain and the opening of a record go without a token.
 pub fn skip(bytes: &[u8], start: usize, require_escape_null: bool) -> Skipped
     ensures { λ r. ⌜ skippedOf r ≡ skipCall (now (bytes .entry)) start «require_escape_null» ⌝ }
 {
@@ -190,22 +195,27 @@ pub fn skip(bytes: &[u8], start: usize, require_escape_null: bool) -> Skipped
     let mut i = start;
     let mut depth: u32 = 0;
     let end = 'groups: loop {
-        let mut next = number_end(bytes, i);
-        while next != 0 {
+        loop {
+            let next = plain_end(bytes, i);
+            if next == 0 {
+                break;
+            }
             i = next;
             if depth == 0 {
                 break 'groups i;
             }
-            next = number_end(bytes, i);
         }
-        if group_ends(&bytes[i..], depth) {
+        if record_opens(bytes, i, depth) {
+            i += 1;
+            depth += 1;
+        } else if group_ends(bytes, i, depth) {
             i += 1;
             depth -= 1;
             if depth == 0 {
                 break 'groups i;
             }
         } else {
-            match field_token(&bytes[i..], depth, require_escape_null) {
+            match left_token(&bytes[i..], depth, require_escape_null) {
                 Token::Passed(inner, n) => {
                     i += n;
                     depth = inner;

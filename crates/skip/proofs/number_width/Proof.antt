@@ -1,7 +1,8 @@
 use mathlib.Core.Path.{sym, subst}
 use Prim.Native.Nat.{ℕ}
+use native.Mathlib.Omega.{arith}
 use Rattle.skip.specs.Tokens.{Width}
-use Rattle.skip.proofs.Marks.{width-none, width-negative, width-positive, width-reference}
+use Rattle.skip.proofs.Marks.{width-below, width-above, width-negative, width-positive, width-reference}
 use borrow.Author.Needs.{needs}
 use Rattle.skip.proofs.number_width.Statement.{statement}
 use Rattle.skip.proofs.number_width.Tie as tie
@@ -10,7 +11,7 @@ use Rattle.skip.proofs.number_width.Lts as lts
 
 -- src/lib.rt:183:9
 returns : tie.Need-returns
-returns c = width-none (c .before .args .mark)
+returns c = width-below (c .before .args .mark) (c .if1 .taken)
 
 -- src/lib.rt:186:17
 sub-result : tie.Need-sub-result
@@ -38,7 +39,7 @@ returns-4 c = subst (λ (m : ℕ). Width m 8) (sym (c .if4 .taken)) width-refere
 
 -- src/lib.rt:179:1
 returns-5 : tie.Need-returns-5
-returns-5 c = width-none (c .before .before .before .before .args .mark)
+returns-5 c = width-above (c .before .before .before .before .args .mark) (omega (arith, c .if4 .left))
 
 pub number-width-spec : {M : Type 1} → statement M
 number-width-spec =
