@@ -284,8 +284,10 @@ pub fn put_fields(
             return stand(w, p, end, 0);
         }
         if last_group(words, w, left) {
-            at = open_group(out, at, words[w], words[w + 1]);
-            left = count_of(words[w], words[w + 1]);
+            let kind = words[w];
+            let tag = words[w + 1];
+            at = open_group(out, at, kind, tag);
+            left = count_of(kind, tag);
             w += 2;
             ends += 1;
         } else {

@@ -82,123 +82,55 @@ put-fields-returns t c = rw (c .stand .ensures) (laws.walk-end (c .before .befor
 put-fields-last-group-requires : (t : ℕ) → put-fields-lts.Need-last-group-requires (put-plain-reads.Asked, put-plain-reads.Learnt, put-ends-reads.Asked, put-ends-reads.Learnt, stand-reads.Asked, stand-reads.Learnt, last-group-reads.Asked, last-group-reads.Learnt, open-group-reads.Asked, open-group-reads.Learnt, count-of-reads.Asked, count-of-reads.Learnt, put-value-below t, put-value.Post) (put-fields-at t) put-fields.Post put-fields-Inv-loop put-fields-μ-loop
 put-fields-last-group-requires t c κs = search needs
 
--- src/lib.rt:287:38
-put-fields-mul-open-group : (t : ℕ) → put-fields-lts.Need-mul-open-group (put-plain-reads.Asked, put-plain-reads.Learnt, put-ends-reads.Asked, put-ends-reads.Learnt, stand-reads.Asked, stand-reads.Learnt, last-group-reads.Asked, last-group-reads.Learnt, open-group-reads.Asked, open-group-reads.Learnt, count-of-reads.Asked, count-of-reads.Learnt, put-value-below t, put-value.Post) (put-fields-at t) put-fields.Post put-fields-Inv-loop put-fields-μ-loop
-put-fields-mul-open-group t c = search needs
+-- src/lib.rt:287:24
+put-fields-mul-kind : (t : ℕ) → put-fields-lts.Need-mul-kind (put-plain-reads.Asked, put-plain-reads.Learnt, put-ends-reads.Asked, put-ends-reads.Learnt, stand-reads.Asked, stand-reads.Learnt, last-group-reads.Asked, last-group-reads.Learnt, open-group-reads.Asked, open-group-reads.Learnt, count-of-reads.Asked, count-of-reads.Learnt, put-value-below t, put-value.Post) (put-fields-at t) put-fields.Post put-fields-Inv-loop put-fields-μ-loop
+put-fields-mul-kind t c = search needs
 
--- src/lib.rt:287:38
-put-fields-shared-slice-read-open-group :
-    (t : ℕ) → put-fields-lts.Need-shared-slice-read-open-group (
-      put-plain-reads.Asked,
-      put-plain-reads.Learnt,
-      put-ends-reads.Asked,
-      put-ends-reads.Learnt,
-      stand-reads.Asked,
-      stand-reads.Learnt,
-      last-group-reads.Asked,
-      last-group-reads.Learnt,
-      open-group-reads.Asked,
-      open-group-reads.Learnt,
-      count-of-reads.Asked,
-      count-of-reads.Learnt,
-      put-value-below t,
-      put-value.Post,
-    ) (put-fields-at t) put-fields.Post put-fields-Inv-loop put-fields-μ-loop
-put-fields-shared-slice-read-open-group t c = omega (arith, c .before .before .before .last-group .ensures (c .before .before .if2 .taken))
+-- src/lib.rt:287:24
+put-fields-shared-slice-read-kind : (t : ℕ) → put-fields-lts.Need-shared-slice-read-kind (put-plain-reads.Asked, put-plain-reads.Learnt, put-ends-reads.Asked, put-ends-reads.Learnt, stand-reads.Asked, stand-reads.Learnt, last-group-reads.Asked, last-group-reads.Learnt, open-group-reads.Asked, open-group-reads.Learnt, count-of-reads.Asked, count-of-reads.Learnt, put-value-below t, put-value.Post) (put-fields-at t) put-fields.Post put-fields-Inv-loop put-fields-μ-loop
+put-fields-shared-slice-read-kind t c = omega (arith, c .before .before .last-group .ensures (c .before .if2 .taken))
 
--- src/lib.rt:287:54
-put-fields-add-open-group : (t : ℕ) → put-fields-lts.Need-add-open-group (put-plain-reads.Asked, put-plain-reads.Learnt, put-ends-reads.Asked, put-ends-reads.Learnt, stand-reads.Asked, stand-reads.Learnt, last-group-reads.Asked, last-group-reads.Learnt, open-group-reads.Asked, open-group-reads.Learnt, count-of-reads.Asked, count-of-reads.Learnt, put-value-below t, put-value.Post) (put-fields-at t) put-fields.Post put-fields-Inv-loop put-fields-μ-loop
-put-fields-add-open-group t c = omega (arith, c .before .before .before .last-group .ensures (c .before .before .if2 .taken))
+-- src/lib.rt:288:29
+put-fields-add-tag : (t : ℕ) → put-fields-lts.Need-add-tag (put-plain-reads.Asked, put-plain-reads.Learnt, put-ends-reads.Asked, put-ends-reads.Learnt, stand-reads.Asked, stand-reads.Learnt, last-group-reads.Asked, last-group-reads.Learnt, open-group-reads.Asked, open-group-reads.Learnt, count-of-reads.Asked, count-of-reads.Learnt, put-value-below t, put-value.Post) (put-fields-at t) put-fields.Post put-fields-Inv-loop put-fields-μ-loop
+put-fields-add-tag t c = omega (arith, c .before .before .last-group .ensures (c .before .if2 .taken))
 
--- src/lib.rt:287:48
-put-fields-mul-open-group-2 : (t : ℕ) → put-fields-lts.Need-mul-open-group-2 (put-plain-reads.Asked, put-plain-reads.Learnt, put-ends-reads.Asked, put-ends-reads.Learnt, stand-reads.Asked, stand-reads.Learnt, last-group-reads.Asked, last-group-reads.Learnt, open-group-reads.Asked, open-group-reads.Learnt, count-of-reads.Asked, count-of-reads.Learnt, put-value-below t, put-value.Post) (put-fields-at t) put-fields.Post put-fields-Inv-loop put-fields-μ-loop
-put-fields-mul-open-group-2 t c = omega (arith, c .before .before .before .last-group .ensures (c .before .before .if2 .taken))
+-- src/lib.rt:288:23
+put-fields-mul-tag : (t : ℕ) → put-fields-lts.Need-mul-tag (put-plain-reads.Asked, put-plain-reads.Learnt, put-ends-reads.Asked, put-ends-reads.Learnt, stand-reads.Asked, stand-reads.Learnt, last-group-reads.Asked, last-group-reads.Learnt, open-group-reads.Asked, open-group-reads.Learnt, count-of-reads.Asked, count-of-reads.Learnt, put-value-below t, put-value.Post) (put-fields-at t) put-fields.Post put-fields-Inv-loop put-fields-μ-loop
+put-fields-mul-tag t c = omega (arith, c .before .before .last-group .ensures (c .before .if2 .taken))
 
--- src/lib.rt:287:48
-put-fields-shared-slice-read-open-group-2 :
-    (t : ℕ) → put-fields-lts.Need-shared-slice-read-open-group-2 (
-      put-plain-reads.Asked,
-      put-plain-reads.Learnt,
-      put-ends-reads.Asked,
-      put-ends-reads.Learnt,
-      stand-reads.Asked,
-      stand-reads.Learnt,
-      last-group-reads.Asked,
-      last-group-reads.Learnt,
-      open-group-reads.Asked,
-      open-group-reads.Learnt,
-      count-of-reads.Asked,
-      count-of-reads.Learnt,
-      put-value-below t,
-      put-value.Post,
-    ) (put-fields-at t) put-fields.Post put-fields-Inv-loop put-fields-μ-loop
-put-fields-shared-slice-read-open-group-2 t c = omega (arith, c .before .before .before .before .last-group .ensures (c .before .before .before .if2 .taken))
+-- src/lib.rt:288:23
+put-fields-shared-slice-read-tag : (t : ℕ) → put-fields-lts.Need-shared-slice-read-tag (put-plain-reads.Asked, put-plain-reads.Learnt, put-ends-reads.Asked, put-ends-reads.Learnt, stand-reads.Asked, stand-reads.Learnt, last-group-reads.Asked, last-group-reads.Learnt, open-group-reads.Asked, open-group-reads.Learnt, count-of-reads.Asked, count-of-reads.Learnt, put-value-below t, put-value.Post) (put-fields-at t) put-fields.Post put-fields-Inv-loop put-fields-μ-loop
+put-fields-shared-slice-read-tag t c = omega (arith, c .before .before .before .last-group .ensures (c .before .before .if2 .taken))
 
--- src/lib.rt:287:13
+-- src/lib.rt:289:13
 put-fields-open-group-requires : (t : ℕ) → put-fields-lts.Need-open-group-requires (put-plain-reads.Asked, put-plain-reads.Learnt, put-ends-reads.Asked, put-ends-reads.Learnt, stand-reads.Asked, stand-reads.Learnt, last-group-reads.Asked, last-group-reads.Learnt, open-group-reads.Asked, open-group-reads.Learnt, count-of-reads.Asked, count-of-reads.Learnt, put-value-below t, put-value.Post) (put-fields-at t) put-fields.Post put-fields-Inv-loop put-fields-μ-loop
 put-fields-open-group-requires t c κs = omega (arith, (laws.walk-plain (c .before .before .before .before .before .before .before .before .before .before .before .before .before .before .args .words .now) (c .before .before .before .before .before .before .before .before .before .before .before .before .before .before .args .pool .now) (c .before .before .before .before .before .before .before .before .before .before .before .before .before .before .args .word) (c .before .before .before .before .before .before .before .before .before .before .before .before .before .before .args .from) (c .before .before .before .before .before .before .before .before .before .before .before .before .before .before .args .start) (c .before .before .before .before .before .before .before .before .before .before .before .before .before .before .args .count) (c .before .before .before .before .before .before .before .before .before .before .before .before .before .before .args .out .now) (c .before .before .before .before .before .before .before .before .before .before .loop .w) (c .before .before .before .before .before .before .before .before .before .before .loop .p) (c .before .before .before .before .before .before .before .before .before .before .loop .at) (c .before .before .before .before .before .before .before .before .before .before .loop .left) (c .before .before .before .before .before .before .before .before .before .before .loop .ends) (c .before .before .before .before .before .before .before .before .before .before .loop .out) (c .before .before .before .before .before .before .before .before .before .before .loop .inv) (c .before .before .before .before .before .before .before .before .put-plain .result) _ (c .before .before .before .before .before .before .before .before .put-plain .ensures)) .at-in, (laws.walk-plain (c .before .before .before .before .before .before .before .before .before .before .before .before .before .before .args .words .now) (c .before .before .before .before .before .before .before .before .before .before .before .before .before .before .args .pool .now) (c .before .before .before .before .before .before .before .before .before .before .before .before .before .before .args .word) (c .before .before .before .before .before .before .before .before .before .before .before .before .before .before .args .from) (c .before .before .before .before .before .before .before .before .before .before .before .before .before .before .args .start) (c .before .before .before .before .before .before .before .before .before .before .before .before .before .before .args .count) (c .before .before .before .before .before .before .before .before .before .before .before .before .before .before .args .out .now) (c .before .before .before .before .before .before .before .before .before .before .loop .w) (c .before .before .before .before .before .before .before .before .before .before .loop .p) (c .before .before .before .before .before .before .before .before .before .before .loop .at) (c .before .before .before .before .before .before .before .before .before .before .loop .left) (c .before .before .before .before .before .before .before .before .before .before .loop .ends) (c .before .before .before .before .before .before .before .before .before .before .loop .out) (c .before .before .before .before .before .before .before .before .before .before .loop .inv) (c .before .before .before .before .before .before .before .before .put-plain .result) _ (c .before .before .before .before .before .before .before .before .put-plain .ensures)) .kept)
 
--- src/lib.rt:288:29
-put-fields-mul-count-of : (t : ℕ) → put-fields-lts.Need-mul-count-of (put-plain-reads.Asked, put-plain-reads.Learnt, put-ends-reads.Asked, put-ends-reads.Learnt, stand-reads.Asked, stand-reads.Learnt, last-group-reads.Asked, last-group-reads.Learnt, open-group-reads.Asked, open-group-reads.Learnt, count-of-reads.Asked, count-of-reads.Learnt, put-value-below t, put-value.Post) (put-fields-at t) put-fields.Post put-fields-Inv-loop put-fields-μ-loop
-put-fields-mul-count-of t c = search needs
-
--- src/lib.rt:288:29
-put-fields-shared-slice-read-count-of : (t : ℕ) → put-fields-lts.Need-shared-slice-read-count-of (put-plain-reads.Asked, put-plain-reads.Learnt, put-ends-reads.Asked, put-ends-reads.Learnt, stand-reads.Asked, stand-reads.Learnt, last-group-reads.Asked, last-group-reads.Learnt, open-group-reads.Asked, open-group-reads.Learnt, count-of-reads.Asked, count-of-reads.Learnt, put-value-below t, put-value.Post) (put-fields-at t) put-fields.Post put-fields-Inv-loop put-fields-μ-loop
-put-fields-shared-slice-read-count-of t c = omega (arith, c .before .before .before .before .before .before .before .before .last-group .ensures (c .before .before .before .before .before .before .before .if2 .taken))
-
--- src/lib.rt:288:45
-put-fields-add-count-of : (t : ℕ) → put-fields-lts.Need-add-count-of (put-plain-reads.Asked, put-plain-reads.Learnt, put-ends-reads.Asked, put-ends-reads.Learnt, stand-reads.Asked, stand-reads.Learnt, last-group-reads.Asked, last-group-reads.Learnt, open-group-reads.Asked, open-group-reads.Learnt, count-of-reads.Asked, count-of-reads.Learnt, put-value-below t, put-value.Post) (put-fields-at t) put-fields.Post put-fields-Inv-loop put-fields-μ-loop
-put-fields-add-count-of t c = omega (arith, c .before .before .before .before .before .before .before .before .last-group .ensures (c .before .before .before .before .before .before .before .if2 .taken))
-
--- src/lib.rt:288:39
-put-fields-mul-count-of-2 : (t : ℕ) → put-fields-lts.Need-mul-count-of-2 (put-plain-reads.Asked, put-plain-reads.Learnt, put-ends-reads.Asked, put-ends-reads.Learnt, stand-reads.Asked, stand-reads.Learnt, last-group-reads.Asked, last-group-reads.Learnt, open-group-reads.Asked, open-group-reads.Learnt, count-of-reads.Asked, count-of-reads.Learnt, put-value-below t, put-value.Post) (put-fields-at t) put-fields.Post put-fields-Inv-loop put-fields-μ-loop
-put-fields-mul-count-of-2 t c = omega (arith, c .before .before .before .before .before .before .before .before .last-group .ensures (c .before .before .before .before .before .before .before .if2 .taken))
-
--- src/lib.rt:288:39
-put-fields-shared-slice-read-count-of-2 :
-    (t : ℕ) → put-fields-lts.Need-shared-slice-read-count-of-2 (
-      put-plain-reads.Asked,
-      put-plain-reads.Learnt,
-      put-ends-reads.Asked,
-      put-ends-reads.Learnt,
-      stand-reads.Asked,
-      stand-reads.Learnt,
-      last-group-reads.Asked,
-      last-group-reads.Learnt,
-      open-group-reads.Asked,
-      open-group-reads.Learnt,
-      count-of-reads.Asked,
-      count-of-reads.Learnt,
-      put-value-below t,
-      put-value.Post,
-    ) (put-fields-at t) put-fields.Post put-fields-Inv-loop put-fields-μ-loop
-put-fields-shared-slice-read-count-of-2 t c = omega (arith, c .before .before .before .before .before .before .before .before .before .last-group .ensures (c .before .before .before .before .before .before .before .before .if2 .taken))
-
--- src/lib.rt:288:13
+-- src/lib.rt:290:13
 put-fields-count-of-requires : (t : ℕ) → put-fields-lts.Need-count-of-requires (put-plain-reads.Asked, put-plain-reads.Learnt, put-ends-reads.Asked, put-ends-reads.Learnt, stand-reads.Asked, stand-reads.Learnt, last-group-reads.Asked, last-group-reads.Learnt, open-group-reads.Asked, open-group-reads.Learnt, count-of-reads.Asked, count-of-reads.Learnt, put-value-below t, put-value.Post) (put-fields-at t) put-fields.Post put-fields-Inv-loop put-fields-μ-loop
 put-fields-count-of-requires t c κs = search needs
 
--- src/lib.rt:289:13
+-- src/lib.rt:291:13
 put-fields-add-w : (t : ℕ) → put-fields-lts.Need-add-w (put-plain-reads.Asked, put-plain-reads.Learnt, put-ends-reads.Asked, put-ends-reads.Learnt, stand-reads.Asked, stand-reads.Learnt, last-group-reads.Asked, last-group-reads.Learnt, open-group-reads.Asked, open-group-reads.Learnt, count-of-reads.Asked, count-of-reads.Learnt, put-value-below t, put-value.Post) (put-fields-at t) put-fields.Post put-fields-Inv-loop put-fields-μ-loop
-put-fields-add-w t c = omega (arith, c .before .before .before .before .before .before .before .before .before .before .last-group .ensures (c .before .before .before .before .before .before .before .before .before .if2 .taken))
+put-fields-add-w t c = omega (arith, c .before .before .before .before .before .before .before .before .last-group .ensures (c .before .before .before .before .before .before .before .if2 .taken))
 
--- src/lib.rt:290:13
+-- src/lib.rt:292:13
 put-fields-add-ends : (t : ℕ) → put-fields-lts.Need-add-ends (put-plain-reads.Asked, put-plain-reads.Learnt, put-ends-reads.Asked, put-ends-reads.Learnt, stand-reads.Asked, stand-reads.Learnt, last-group-reads.Asked, last-group-reads.Learnt, open-group-reads.Asked, open-group-reads.Learnt, count-of-reads.Asked, count-of-reads.Learnt, put-value-below t, put-value.Post) (put-fields-at t) put-fields.Post put-fields-Inv-loop put-fields-μ-loop
-put-fields-add-ends t c = omega (arith, (laws.walk-plain (c .before .before .before .before .before .before .before .before .before .before .before .before .before .before .before .before .before .before .before .before .args .words .now) (c .before .before .before .before .before .before .before .before .before .before .before .before .before .before .before .before .before .before .before .before .args .pool .now) (c .before .before .before .before .before .before .before .before .before .before .before .before .before .before .before .before .before .before .before .before .args .word) (c .before .before .before .before .before .before .before .before .before .before .before .before .before .before .before .before .before .before .before .before .args .from) (c .before .before .before .before .before .before .before .before .before .before .before .before .before .before .before .before .before .before .before .before .args .start) (c .before .before .before .before .before .before .before .before .before .before .before .before .before .before .before .before .before .before .before .before .args .count) (c .before .before .before .before .before .before .before .before .before .before .before .before .before .before .before .before .before .before .before .before .args .out .now) (c .before .before .before .before .before .before .before .before .before .before .before .before .before .before .before .before .loop .w) (c .before .before .before .before .before .before .before .before .before .before .before .before .before .before .before .before .loop .p) (c .before .before .before .before .before .before .before .before .before .before .before .before .before .before .before .before .loop .at) (c .before .before .before .before .before .before .before .before .before .before .before .before .before .before .before .before .loop .left) (c .before .before .before .before .before .before .before .before .before .before .before .before .before .before .before .before .loop .ends) (c .before .before .before .before .before .before .before .before .before .before .before .before .before .before .before .before .loop .out) (c .before .before .before .before .before .before .before .before .before .before .before .before .before .before .before .before .loop .inv) (c .before .before .before .before .before .before .before .before .before .before .before .before .before .before .put-plain .result) _ (c .before .before .before .before .before .before .before .before .before .before .before .before .before .before .put-plain .ensures)) .on, (laws.walk-plain (c .before .before .before .before .before .before .before .before .before .before .before .before .before .before .before .before .before .before .before .before .args .words .now) (c .before .before .before .before .before .before .before .before .before .before .before .before .before .before .before .before .before .before .before .before .args .pool .now) (c .before .before .before .before .before .before .before .before .before .before .before .before .before .before .before .before .before .before .before .before .args .word) (c .before .before .before .before .before .before .before .before .before .before .before .before .before .before .before .before .before .before .before .before .args .from) (c .before .before .before .before .before .before .before .before .before .before .before .before .before .before .before .before .before .before .before .before .args .start) (c .before .before .before .before .before .before .before .before .before .before .before .before .before .before .before .before .before .before .before .before .args .count) (c .before .before .before .before .before .before .before .before .before .before .before .before .before .before .before .before .before .before .before .before .args .out .now) (c .before .before .before .before .before .before .before .before .before .before .before .before .before .before .before .before .loop .w) (c .before .before .before .before .before .before .before .before .before .before .before .before .before .before .before .before .loop .p) (c .before .before .before .before .before .before .before .before .before .before .before .before .before .before .before .before .loop .at) (c .before .before .before .before .before .before .before .before .before .before .before .before .before .before .before .before .loop .left) (c .before .before .before .before .before .before .before .before .before .before .before .before .before .before .before .before .loop .ends) (c .before .before .before .before .before .before .before .before .before .before .before .before .before .before .before .before .loop .out) (c .before .before .before .before .before .before .before .before .before .before .before .before .before .before .before .before .loop .inv) (c .before .before .before .before .before .before .before .before .before .before .before .before .before .before .put-plain .result) _ (c .before .before .before .before .before .before .before .before .before .before .before .before .before .before .put-plain .ensures)) .word-in)
+put-fields-add-ends t c = omega (arith, (laws.walk-plain (c .before .before .before .before .before .before .before .before .before .before .before .before .before .before .before .before .before .before .args .words .now) (c .before .before .before .before .before .before .before .before .before .before .before .before .before .before .before .before .before .before .args .pool .now) (c .before .before .before .before .before .before .before .before .before .before .before .before .before .before .before .before .before .before .args .word) (c .before .before .before .before .before .before .before .before .before .before .before .before .before .before .before .before .before .before .args .from) (c .before .before .before .before .before .before .before .before .before .before .before .before .before .before .before .before .before .before .args .start) (c .before .before .before .before .before .before .before .before .before .before .before .before .before .before .before .before .before .before .args .count) (c .before .before .before .before .before .before .before .before .before .before .before .before .before .before .before .before .before .before .args .out .now) (c .before .before .before .before .before .before .before .before .before .before .before .before .before .before .loop .w) (c .before .before .before .before .before .before .before .before .before .before .before .before .before .before .loop .p) (c .before .before .before .before .before .before .before .before .before .before .before .before .before .before .loop .at) (c .before .before .before .before .before .before .before .before .before .before .before .before .before .before .loop .left) (c .before .before .before .before .before .before .before .before .before .before .before .before .before .before .loop .ends) (c .before .before .before .before .before .before .before .before .before .before .before .before .before .before .loop .out) (c .before .before .before .before .before .before .before .before .before .before .before .before .before .before .loop .inv) (c .before .before .before .before .before .before .before .before .before .before .before .before .put-plain .result) _ (c .before .before .before .before .before .before .before .before .before .before .before .before .put-plain .ensures)) .on, (laws.walk-plain (c .before .before .before .before .before .before .before .before .before .before .before .before .before .before .before .before .before .before .args .words .now) (c .before .before .before .before .before .before .before .before .before .before .before .before .before .before .before .before .before .before .args .pool .now) (c .before .before .before .before .before .before .before .before .before .before .before .before .before .before .before .before .before .before .args .word) (c .before .before .before .before .before .before .before .before .before .before .before .before .before .before .before .before .before .before .args .from) (c .before .before .before .before .before .before .before .before .before .before .before .before .before .before .before .before .before .before .args .start) (c .before .before .before .before .before .before .before .before .before .before .before .before .before .before .before .before .before .before .args .count) (c .before .before .before .before .before .before .before .before .before .before .before .before .before .before .before .before .before .before .args .out .now) (c .before .before .before .before .before .before .before .before .before .before .before .before .before .before .loop .w) (c .before .before .before .before .before .before .before .before .before .before .before .before .before .before .loop .p) (c .before .before .before .before .before .before .before .before .before .before .before .before .before .before .loop .at) (c .before .before .before .before .before .before .before .before .before .before .before .before .before .before .loop .left) (c .before .before .before .before .before .before .before .before .before .before .before .before .before .before .loop .ends) (c .before .before .before .before .before .before .before .before .before .before .before .before .before .before .loop .out) (c .before .before .before .before .before .before .before .before .before .before .before .before .before .before .loop .inv) (c .before .before .before .before .before .before .before .before .before .before .before .before .put-plain .result) _ (c .before .before .before .before .before .before .before .before .before .before .before .before .put-plain .ensures)) .word-in)
 
 -- src/lib.rt:276:5
 put-fields-loop-less : (t : ℕ) → put-fields-lts.Need-loop-less (put-plain-reads.Asked, put-plain-reads.Learnt, put-ends-reads.Asked, put-ends-reads.Learnt, stand-reads.Asked, stand-reads.Learnt, last-group-reads.Asked, last-group-reads.Learnt, open-group-reads.Asked, open-group-reads.Learnt, count-of-reads.Asked, count-of-reads.Learnt, put-value-below t, put-value.Post) (put-fields-at t) put-fields.Post put-fields-Inv-loop put-fields-μ-loop
-put-fields-loop-less t c = omega (arith, c .before .before .before .before .before .before .before .before .before .before .last-group .ensures (c .before .before .before .before .before .before .before .before .before .if2 .taken), c .before .before .before .before .before .before .before .before .before .before .before .before .before .before .put-plain .ensures .onward .on, c .before .before .before .before .before .before .before .before .before .before .before .before .before .before .put-plain .ensures .fewer, c .count-of .ensures, laws.count-small (getD (c .before .before .before .before .before .before .before .before .before .before .before .before .before .before .before .before .before .before .before .before .args .words .now) (c .before .before .before .before .before .before .before .before .before .before .before .before .before .before .put-plain .result .word) 0) (getD (c .before .before .before .before .before .before .before .before .before .before .before .before .before .before .before .before .before .before .before .before .args .words .now) (c .before .before .before .before .before .before .before .before .before .before .before .before .before .before .put-plain .result .word + 1) 0), c .before .shared-slice-known6 .given (c .before .before .before .before .before .before .before .before .before .before .before .before .before .before .put-plain .result .word + 1))
+put-fields-loop-less t c = omega (arith, c .before .before .before .before .before .before .before .before .last-group .ensures (c .before .before .before .before .before .before .before .if2 .taken), c .before .before .before .before .before .before .before .before .before .before .before .before .put-plain .ensures .onward .on, c .before .before .before .before .before .before .before .before .before .before .before .before .put-plain .ensures .fewer, c .count-of .ensures, laws.count-small (getD (c .before .before .before .before .before .before .before .before .before .before .before .before .before .before .before .before .before .before .args .words .now) (c .before .before .before .before .before .before .before .before .before .before .before .before .put-plain .result .word) 0) (getD (c .before .before .before .before .before .before .before .before .before .before .before .before .before .before .before .before .before .before .args .words .now) (c .before .before .before .before .before .before .before .before .before .before .before .before .put-plain .result .word + 1) 0), c .before .before .before .before .before .shared-slice-known4 .given (c .before .before .before .before .before .before .before .before .before .before .before .before .put-plain .result .word + 1))
 
 -- src/lib.rt:276:5
 put-fields-loop-again : (t : ℕ) → put-fields-lts.Need-loop-again (put-plain-reads.Asked, put-plain-reads.Learnt, put-ends-reads.Asked, put-ends-reads.Learnt, stand-reads.Asked, stand-reads.Learnt, last-group-reads.Asked, last-group-reads.Learnt, open-group-reads.Asked, open-group-reads.Learnt, count-of-reads.Asked, count-of-reads.Learnt, put-value-below t, put-value.Post) (put-fields-at t) put-fields.Post put-fields-Inv-loop put-fields-μ-loop
-put-fields-loop-again t c = rw (c .count-of .ensures) (laws.walk-into (c .before .before .before .before .before .before .before .before .before .before .before .before .before .before .before .before .before .before .before .before .args .words .now) (c .before .before .before .before .before .before .before .before .before .before .before .before .before .before .before .before .before .before .before .before .args .pool .now) (c .before .before .before .before .before .before .before .before .before .before .before .before .before .before .before .before .before .before .before .before .args .word) (c .before .before .before .before .before .before .before .before .before .before .before .before .before .before .before .before .before .before .before .before .args .from) (c .before .before .before .before .before .before .before .before .before .before .before .before .before .before .before .before .before .before .before .before .args .start) (c .before .before .before .before .before .before .before .before .before .before .before .before .before .before .before .before .before .before .before .before .args .count) (c .before .before .before .before .before .before .before .before .before .before .before .before .before .before .before .before .before .before .before .before .args .out .now) (c .before .before .before .before .before .before .before .before .before .before .before .before .before .before .put-plain .result .word) (c .before .before .before .before .before .before .before .before .before .before .before .before .before .before .put-plain .result .pool) (c .before .before .before .before .before .before .before .before .before .before .before .before .before .before .put-plain .result .at) (c .before .before .before .before .before .before .before .before .before .before .before .before .before .before .put-plain .result .left) (c .before .before .before .before .before .before .before .before .before .before .before .before .before .before .before .before .loop .ends) _ (laws.walk-plain (c .before .before .before .before .before .before .before .before .before .before .before .before .before .before .before .before .before .before .before .before .args .words .now) (c .before .before .before .before .before .before .before .before .before .before .before .before .before .before .before .before .before .before .before .before .args .pool .now) (c .before .before .before .before .before .before .before .before .before .before .before .before .before .before .before .before .before .before .before .before .args .word) (c .before .before .before .before .before .before .before .before .before .before .before .before .before .before .before .before .before .before .before .before .args .from) (c .before .before .before .before .before .before .before .before .before .before .before .before .before .before .before .before .before .before .before .before .args .start) (c .before .before .before .before .before .before .before .before .before .before .before .before .before .before .before .before .before .before .before .before .args .count) (c .before .before .before .before .before .before .before .before .before .before .before .before .before .before .before .before .before .before .before .before .args .out .now) (c .before .before .before .before .before .before .before .before .before .before .before .before .before .before .before .before .loop .w) (c .before .before .before .before .before .before .before .before .before .before .before .before .before .before .before .before .loop .p) (c .before .before .before .before .before .before .before .before .before .before .before .before .before .before .before .before .loop .at) (c .before .before .before .before .before .before .before .before .before .before .before .before .before .before .before .before .loop .left) (c .before .before .before .before .before .before .before .before .before .before .before .before .before .before .before .before .loop .ends) (c .before .before .before .before .before .before .before .before .before .before .before .before .before .before .before .before .loop .out) (c .before .before .before .before .before .before .before .before .before .before .before .before .before .before .before .before .loop .inv) (c .before .before .before .before .before .before .before .before .before .before .before .before .before .before .put-plain .result) _ (c .before .before .before .before .before .before .before .before .before .before .before .before .before .before .put-plain .ensures)) _ _ (c .before .before .before .before .before .open-group .result) _ (c .before .before .before .before .before .before .before .before .before .before .last-group .ensures (c .before .before .before .before .before .before .before .before .before .if2 .taken) .0) (c .before .before .before .before .before .before .before .before .before .before .last-group .ensures (c .before .before .before .before .before .before .before .before .before .if2 .taken) .1) (omega (arith, c .before .before .before .before .before .before .before .before .before .before .last-group .ensures (c .before .before .before .before .before .before .before .before .before .if2 .taken) .2)) refl refl (c .before .before .before .before .before .open-group .ensures))
+put-fields-loop-again t c = rw (c .count-of .ensures) (laws.walk-into (c .before .before .before .before .before .before .before .before .before .before .before .before .before .before .before .before .before .before .args .words .now) (c .before .before .before .before .before .before .before .before .before .before .before .before .before .before .before .before .before .before .args .pool .now) (c .before .before .before .before .before .before .before .before .before .before .before .before .before .before .before .before .before .before .args .word) (c .before .before .before .before .before .before .before .before .before .before .before .before .before .before .before .before .before .before .args .from) (c .before .before .before .before .before .before .before .before .before .before .before .before .before .before .before .before .before .before .args .start) (c .before .before .before .before .before .before .before .before .before .before .before .before .before .before .before .before .before .before .args .count) (c .before .before .before .before .before .before .before .before .before .before .before .before .before .before .before .before .before .before .args .out .now) (c .before .before .before .before .before .before .before .before .before .before .before .before .put-plain .result .word) (c .before .before .before .before .before .before .before .before .before .before .before .before .put-plain .result .pool) (c .before .before .before .before .before .before .before .before .before .before .before .before .put-plain .result .at) (c .before .before .before .before .before .before .before .before .before .before .before .before .put-plain .result .left) (c .before .before .before .before .before .before .before .before .before .before .before .before .before .before .loop .ends) _ (laws.walk-plain (c .before .before .before .before .before .before .before .before .before .before .before .before .before .before .before .before .before .before .args .words .now) (c .before .before .before .before .before .before .before .before .before .before .before .before .before .before .before .before .before .before .args .pool .now) (c .before .before .before .before .before .before .before .before .before .before .before .before .before .before .before .before .before .before .args .word) (c .before .before .before .before .before .before .before .before .before .before .before .before .before .before .before .before .before .before .args .from) (c .before .before .before .before .before .before .before .before .before .before .before .before .before .before .before .before .before .before .args .start) (c .before .before .before .before .before .before .before .before .before .before .before .before .before .before .before .before .before .before .args .count) (c .before .before .before .before .before .before .before .before .before .before .before .before .before .before .before .before .before .before .args .out .now) (c .before .before .before .before .before .before .before .before .before .before .before .before .before .before .loop .w) (c .before .before .before .before .before .before .before .before .before .before .before .before .before .before .loop .p) (c .before .before .before .before .before .before .before .before .before .before .before .before .before .before .loop .at) (c .before .before .before .before .before .before .before .before .before .before .before .before .before .before .loop .left) (c .before .before .before .before .before .before .before .before .before .before .before .before .before .before .loop .ends) (c .before .before .before .before .before .before .before .before .before .before .before .before .before .before .loop .out) (c .before .before .before .before .before .before .before .before .before .before .before .before .before .before .loop .inv) (c .before .before .before .before .before .before .before .before .before .before .before .before .put-plain .result) _ (c .before .before .before .before .before .before .before .before .before .before .before .before .put-plain .ensures)) _ _ (c .before .before .before .open-group .result) _ (c .before .before .before .before .before .before .before .before .last-group .ensures (c .before .before .before .before .before .before .before .if2 .taken) .0) (c .before .before .before .before .before .before .before .before .last-group .ensures (c .before .before .before .before .before .before .before .if2 .taken) .1) (omega (arith, c .before .before .before .before .before .before .before .before .last-group .ensures (c .before .before .before .before .before .before .before .if2 .taken) .2)) refl refl (c .before .before .before .open-group .ensures))
 
--- src/lib.rt:292:17
+-- src/lib.rt:294:17
 put-fields-put-value-requires : (t : ℕ) → put-fields-lts.Need-put-value-requires (put-plain-reads.Asked, put-plain-reads.Learnt, put-ends-reads.Asked, put-ends-reads.Learnt, stand-reads.Asked, stand-reads.Learnt, last-group-reads.Asked, last-group-reads.Learnt, open-group-reads.Asked, open-group-reads.Learnt, count-of-reads.Asked, count-of-reads.Learnt, put-value-below t, put-value.Post) (put-fields-at t) put-fields.Post put-fields-Inv-loop put-fields-μ-loop
 put-fields-put-value-requires t c κs = (omega (arith, c .before .before .before .before .before .before .before .before .before .before .before .before .pre .0, (laws.walk-plain (c .before .before .before .before .before .before .before .before .before .before .before .before .args .words .now) (c .before .before .before .before .before .before .before .before .before .before .before .before .args .pool .now) (c .before .before .before .before .before .before .before .before .before .before .before .before .args .word) (c .before .before .before .before .before .before .before .before .before .before .before .before .args .from) (c .before .before .before .before .before .before .before .before .before .before .before .before .args .start) (c .before .before .before .before .before .before .before .before .before .before .before .before .args .count) (c .before .before .before .before .before .before .before .before .before .before .before .before .args .out .now) (c .before .before .before .before .before .before .before .before .loop .w) (c .before .before .before .before .before .before .before .before .loop .p) (c .before .before .before .before .before .before .before .before .loop .at) (c .before .before .before .before .before .before .before .before .loop .left) (c .before .before .before .before .before .before .before .before .loop .ends) (c .before .before .before .before .before .before .before .before .loop .out) (c .before .before .before .before .before .before .before .before .loop .inv) (c .before .before .before .before .before .before .put-plain .result) _ (c .before .before .before .before .before .before .put-plain .ensures)) .on, (laws.walk-plain (c .before .before .before .before .before .before .before .before .before .before .before .before .args .words .now) (c .before .before .before .before .before .before .before .before .before .before .before .before .args .pool .now) (c .before .before .before .before .before .before .before .before .before .before .before .before .args .word) (c .before .before .before .before .before .before .before .before .before .before .before .before .args .from) (c .before .before .before .before .before .before .before .before .before .before .before .before .args .start) (c .before .before .before .before .before .before .before .before .before .before .before .before .args .count) (c .before .before .before .before .before .before .before .before .before .before .before .before .args .out .now) (c .before .before .before .before .before .before .before .before .loop .w) (c .before .before .before .before .before .before .before .before .loop .p) (c .before .before .before .before .before .before .before .before .loop .at) (c .before .before .before .before .before .before .before .before .loop .left) (c .before .before .before .before .before .before .before .before .loop .ends) (c .before .before .before .before .before .before .before .before .loop .out) (c .before .before .before .before .before .before .before .before .loop .inv) (c .before .before .before .before .before .before .put-plain .result) _ (c .before .before .before .before .before .before .put-plain .ensures)) .word-in), record { word-in = (laws.walk-plain (c .before .before .before .before .before .before .before .before .before .before .before .before .args .words .now) (c .before .before .before .before .before .before .before .before .before .before .before .before .args .pool .now) (c .before .before .before .before .before .before .before .before .before .before .before .before .args .word) (c .before .before .before .before .before .before .before .before .before .before .before .before .args .from) (c .before .before .before .before .before .before .before .before .before .before .before .before .args .start) (c .before .before .before .before .before .before .before .before .before .before .before .before .args .count) (c .before .before .before .before .before .before .before .before .before .before .before .before .args .out .now) (c .before .before .before .before .before .before .before .before .loop .w) (c .before .before .before .before .before .before .before .before .loop .p) (c .before .before .before .before .before .before .before .before .loop .at) (c .before .before .before .before .before .before .before .before .loop .left) (c .before .before .before .before .before .before .before .before .loop .ends) (c .before .before .before .before .before .before .before .before .loop .out) (c .before .before .before .before .before .before .before .before .loop .inv) (c .before .before .before .before .before .before .put-plain .result) _ (c .before .before .before .before .before .before .put-plain .ensures)) .word-in; pool-in = (laws.walk-plain (c .before .before .before .before .before .before .before .before .before .before .before .before .args .words .now) (c .before .before .before .before .before .before .before .before .before .before .before .before .args .pool .now) (c .before .before .before .before .before .before .before .before .before .before .before .before .args .word) (c .before .before .before .before .before .before .before .before .before .before .before .before .args .from) (c .before .before .before .before .before .before .before .before .before .before .before .before .args .start) (c .before .before .before .before .before .before .before .before .before .before .before .before .args .count) (c .before .before .before .before .before .before .before .before .before .before .before .before .args .out .now) (c .before .before .before .before .before .before .before .before .loop .w) (c .before .before .before .before .before .before .before .before .loop .p) (c .before .before .before .before .before .before .before .before .loop .at) (c .before .before .before .before .before .before .before .before .loop .left) (c .before .before .before .before .before .before .before .before .loop .ends) (c .before .before .before .before .before .before .before .before .loop .out) (c .before .before .before .before .before .before .before .before .loop .inv) (c .before .before .before .before .before .before .put-plain .result) _ (c .before .before .before .before .before .before .put-plain .ensures)) .pool-in; at-in = omega (arith, (laws.walk-plain (c .before .before .before .before .before .before .before .before .before .before .before .before .args .words .now) (c .before .before .before .before .before .before .before .before .before .before .before .before .args .pool .now) (c .before .before .before .before .before .before .before .before .before .before .before .before .args .word) (c .before .before .before .before .before .before .before .before .before .before .before .before .args .from) (c .before .before .before .before .before .before .before .before .before .before .before .before .args .start) (c .before .before .before .before .before .before .before .before .before .before .before .before .args .count) (c .before .before .before .before .before .before .before .before .before .before .before .before .args .out .now) (c .before .before .before .before .before .before .before .before .loop .w) (c .before .before .before .before .before .before .before .before .loop .p) (c .before .before .before .before .before .before .before .before .loop .at) (c .before .before .before .before .before .before .before .before .loop .left) (c .before .before .before .before .before .before .before .before .loop .ends) (c .before .before .before .before .before .before .before .before .loop .out) (c .before .before .before .before .before .before .before .before .loop .inv) (c .before .before .before .before .before .before .put-plain .result) _ (c .before .before .before .before .before .before .put-plain .ensures)) .at-in, (laws.walk-plain (c .before .before .before .before .before .before .before .before .before .before .before .before .args .words .now) (c .before .before .before .before .before .before .before .before .before .before .before .before .args .pool .now) (c .before .before .before .before .before .before .before .before .before .before .before .before .args .word) (c .before .before .before .before .before .before .before .before .before .before .before .before .args .from) (c .before .before .before .before .before .before .before .before .before .before .before .before .args .start) (c .before .before .before .before .before .before .before .before .before .before .before .before .args .count) (c .before .before .before .before .before .before .before .before .before .before .before .before .args .out .now) (c .before .before .before .before .before .before .before .before .loop .w) (c .before .before .before .before .before .before .before .before .loop .p) (c .before .before .before .before .before .before .before .before .loop .at) (c .before .before .before .before .before .before .before .before .loop .left) (c .before .before .before .before .before .before .before .before .loop .ends) (c .before .before .before .before .before .before .before .before .loop .out) (c .before .before .before .before .before .before .before .before .loop .inv) (c .before .before .before .before .before .before .put-plain .result) _ (c .before .before .before .before .before .before .put-plain .ensures)) .kept) })
 
--- src/lib.rt:296:13
+-- src/lib.rt:298:13
 put-fields-sub-left : (t : ℕ) → put-fields-lts.Need-sub-left (put-plain-reads.Asked, put-plain-reads.Learnt, put-ends-reads.Asked, put-ends-reads.Learnt, stand-reads.Asked, stand-reads.Learnt, last-group-reads.Asked, last-group-reads.Learnt, open-group-reads.Asked, open-group-reads.Learnt, count-of-reads.Asked, count-of-reads.Learnt, put-value-below t, put-value.Post) (put-fields-at t) put-fields.Post put-fields-Inv-loop put-fields-μ-loop
 put-fields-sub-left t c = omega (arith, c .before .before .before .before .before .before .if1 .left)
 
@@ -331,17 +263,12 @@ pub +put-fields+put-value-spec : {M : Type 1} → statement M
     (put-fields-same-length t)
     (put-fields-returns t)
     (put-fields-last-group-requires t)
-    (put-fields-mul-open-group t)
-    (put-fields-shared-slice-read-open-group t)
-    (put-fields-add-open-group t)
-    (put-fields-mul-open-group-2 t)
-    (put-fields-shared-slice-read-open-group-2 t)
+    (put-fields-mul-kind t)
+    (put-fields-shared-slice-read-kind t)
+    (put-fields-add-tag t)
+    (put-fields-mul-tag t)
+    (put-fields-shared-slice-read-tag t)
     (put-fields-open-group-requires t)
-    (put-fields-mul-count-of t)
-    (put-fields-shared-slice-read-count-of t)
-    (put-fields-add-count-of t)
-    (put-fields-mul-count-of-2 t)
-    (put-fields-shared-slice-read-count-of-2 t)
     (put-fields-count-of-requires t)
     (put-fields-add-w t)
     (put-fields-add-ends t)
