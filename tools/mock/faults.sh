@@ -1,13 +1,13 @@
 #!/bin/sh
 # Tests the tools themselves: the mock must show no difference, and each of its faults must be caught by the differential run and by
-# the fixed list. usage: faults.sh [FAULT ..]
+# the fixed list, the one that the program replay has in the gate, or its large lines. usage: faults.sh [FAULT ..]
 set -u
 here=$(cd "$(dirname "$0")" && pwd)
 cd "$(dirname "$here")" || exit 2
 cargo build --release --offline -q -p mock || exit 2
 TUPLE_LIB=$PWD/target/release cargo build --release --offline -q -p differential --all-features || exit 2
-list=target/fixed-list.txt
-[ -s "$list" ] || target/release/fixed-list --inputs 1000 --parts scalars,encode,decode,skip,order,keys,cursors,chars > "$list" 2>/dev/null || exit 2
+list=target/faults-list.txt
+{ cat ../crates/replay/stdin && target/release/fixed-list --large 2>/dev/null; } > "$list" || exit 2
 
 if [ $# -eq 0 ]; then
     # shellcheck disable=SC2046
