@@ -33,22 +33,20 @@ follows-inside s at h e = go (ltb (length s) (at + 2)) refl
 
 -- ---- a group's end
 
-module _ (s : List ℕ) (at : ℕ) where
-  pub ends-none : length s ≤ at → endsHere (drop at s) ≡ false
-  unfolding endsHere
-  ends-none h = rw (drop-of-length-le s h)
+pub ends-none : (s : List ℕ) → length s ≡ 0 → endsHere s ≡ false
+unfolding endsHere
+ends-none [] h = refl
+ends-none (b ∷ s) h = absurd (omega arith)
 
-  pub ends-other : (getD s at 0 ≡ 0 → ⊥) → endsHere (drop at s) ≡ false
-  unfolding endsHere
-  ends-other h = go (ltb at (length s)) refl
-    where
-      go : (t : Bool) → ltb at (length s) ≡ t → endsHere (drop at s) ≡ false
-      go true l = rw (drop-one s at (ltb-true at (length s) l), ne-eqb (getD s at 0) 0 h)
-      go false l = ends-none (ltb-false at (length s) l)
+pub ends-other : (s : List ℕ) → (getD s 0 0 ≡ 0 → ⊥) → endsHere s ≡ false
+unfolding endsHere
+ends-other [] h = refl
+ends-other (b ∷ s) h = rw (ne-eqb b 0 h)
 
-  pub ends-zero : at < length s → getD s at 0 ≡ 0 → endsHere (drop at s) ≡ not (startsFF (drop (at + 1) s))
-  unfolding endsHere
-  ends-zero l h = rw (drop-one s at l, eq-eqb (getD s at 0) 0 h)
+pub ends-zero : (s : List ℕ) → 0 < length s → getD s 0 0 ≡ 0 → endsHere s ≡ not (startsFF (drop 1 s))
+unfolding endsHere
+ends-zero [] l h = absurd (omega arith)
+ends-zero (b ∷ s) l h = rw (eq-eqb b 0 h)
 
 -- ---- a field by its mark
 

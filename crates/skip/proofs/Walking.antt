@@ -1,12 +1,12 @@
 -- The walk of `skip` as the invariant of its loops says it, what is left of it, and what each turn makes of it.
 use mathlib.Core.Bool.{Bool, true, false, _&&_, _||_, and-false}
-use mathlib.Core.Path.{_≡_, refl, sym, ap, _∙_, subst}
+use mathlib.Core.Path.{_≡_, refl, sym, ap, _∙_}
 use mathlib.Core.List.{List, [], _∷_, _++_}
 use Prim.Native.Nat.{ℕ, _+_, _-_, _≤_, _<_}
 use native.Mathlib.Omega.{arith}
 use lib.Dec.{ltb, eqb}
-use lib.ListN.{length, getD, drop, length-drop, length-append, drop-of-length-le, List·getD-eq-default}
-use lib.Seq.{drop-drop, drop-at, getD-drop}
+use lib.ListN.{length, getD, drop, length-drop, length-append, drop-of-length-le}
+use lib.Seq.{drop-drop, drop-at}
 use borrow.Author.Tests.{eq-eqb, ne-eqb, eqb-true, ltb-true, ltb-false, lt-ltb}
 use Rattle.format.specs.Answer.{Answer, ok, refused}
 use Rattle.format.specs.Encode.{maxDepth}
@@ -115,71 +115,49 @@ module _ {escape : Bool} {b : List ℕ} {start i d : ℕ} (w : Walk escape b sta
 
 -- ---- numbers and runs open and close no group
 
--- the first byte of the rest
-first-byte : (b : List ℕ) (at : ℕ) → getD (drop at b) 0 0 ≡ getD b at 0
-first-byte b at =
-    let z : at + 0 ≡ at = omega arith in
-    getD-drop at b 0 0 ∙ ap (λ (i : ℕ). getD b i 0) z
+-- a turn is a field where no 00 stands
+turn-mark : (escape : Bool) (depth : ℕ) (s : List ℕ) (m : ℕ) → 0 < length s → (m ≡ 0 → ⊥) → getD s 0 0 ≡ m → turn escape depth s ≡ passField escape depth m (drop 1 s)
+turn-mark escape depth s m here some e =
+    let n : Ending depth s ≡ false = rw (ends-other s (λ z. some (sym e ∙ z))) (and-false (ltb 0 depth)) in
+    turn-field escape depth s n ∙ field-known escape depth s m here e
 
-module _ (b : List ℕ) (at : ℕ) (here : at < length b) (some : getD b at 0 ≡ 0 → ⊥) where
-  -- a turn is a field where no 00 stands
-  turn-mark : (escape : Bool) (depth m : ℕ) → getD b at 0 ≡ m → turn escape depth (drop at b) ≡ passField escape depth m (drop (at + 1) b)
-  turn-mark escape depth m e =
-      let l = length-drop at b in
-      let n : Ending depth (drop at b) ≡ false = rw (ends-other b at some) (and-false (ltb 0 depth)) in
-      let d : drop 1 (drop at b) ≡ drop (at + 1) b = drop-drop 1 at b in
-      turn-field escape depth (drop at b) n ∙ field-known escape depth (drop at b) m (omega arith) (first-byte b at ∙ e) ∙ ap (passField escape depth m) d
+-- another mark
+pub plain-none : (s : List ℕ) → (numberMark (getD s 0 0) || runMark (getD s 0 0)) ≡ false → PlainEnds s 0
+plain-none s e = record { inside = λ z. absurd (z refl); passes = λ z. absurd (z refl); cut = λ z m. let y : _≡_ {A = ℕ} 0 1 = cc in absurd (omega arith) }
 
--- no bytes, or another mark
-pub plain-none : (b : List ℕ) (at : ℕ) → (numberMark (getD b at 0) || runMark (getD b at 0)) ≡ false → PlainEnds b at 0
-plain-none b at e = record { inside = λ z. absurd (z refl); passes = λ z. absurd (z refl); cut = λ z m. let y : _≡_ {A = ℕ} 0 1 = cc in absurd (omega arith) }
+-- no byte
+pub plain-empty : (s : List ℕ) → length s ≡ 0 → PlainEnds s 0
+plain-empty [] h = plain-none [] refl
+plain-empty (b ∷ s) h = absurd (omega arith)
 
-pub plain-past : (b : List ℕ) (at : ℕ) → length b ≤ at → PlainEnds b at 0
-plain-past b at h = plain-none b at (rw (List·getD-eq-default b 0 h))
+module _ (s : List ℕ) (w : ℕ) (k : Width (getD s 0 0) w) (h : w < 9) (here : 0 < length s) where
+  number-turn : (escape : Bool) (depth : ℕ) → turn escape depth s ≡ passBytes w depth (drop 1 s)
+  number-turn escape depth = turn-mark escape depth s (getD s 0 0) here (k .some h) refl ∙ k .passes h escape depth (drop 1 s)
 
-module _ (b : List ℕ) (at w : ℕ) (k : Width (getD b at 0) w) (h : w < 9) (here : at < length b) where
-  number-turn : (escape : Bool) (depth : ℕ) → turn escape depth (drop at b) ≡ passBytes w depth (drop (at + 1) b)
-  number-turn escape depth = turn-mark b at here (k .some h) escape depth (getD b at 0) refl ∙ k .passes h escape depth (drop (at + 1) b)
-
-  pub plain-number : at + w < length b → PlainEnds b at (at + w + 1)
+  pub plain-number : w < length s → PlainEnds s (w + 1)
   plain-number room =
-      let l = length-drop (at + 1) b in
-      let e : at + 1 + w ≡ at + w + 1 = omega arith in
+      let l = length-drop 1 s in
+      let e : 1 + w ≡ w + 1 = omega arith in
       record {
-        inside = λ z. (omega arith, omega arith);
-        passes = λ z escape depth. number-turn escape depth ∙ rw (big-read w (drop (at + 1) b) (omega arith), drop-drop w (at + 1) b, e);
+        inside = λ z. omega arith;
+        passes = λ z escape depth. number-turn escape depth ∙ rw (big-read w (drop 1 s) (omega arith), drop-drop w 1 s, e);
         cut = λ z. absurd (omega arith);
       }
 
-  pub plain-short : length b - at ≤ w → PlainEnds b at 0
+  pub plain-short : length s ≤ w → PlainEnds s 0
   plain-short room =
-      let l = length-drop (at + 1) b in
-      record { inside = λ z. absurd (z refl); passes = λ z. absurd (z refl); cut = λ z m escape depth. number-turn escape depth ∙ rw (big-short w (drop (at + 1) b) (omega arith)) }
+      let l = length-drop 1 s in
+      record { inside = λ z. absurd (z refl); passes = λ z. absurd (z refl); cut = λ z m escape depth. number-turn escape depth ∙ rw (big-short w (drop 1 s) (omega arith)) }
 
-pub plain-run : (b : List ℕ) (at r : ℕ) → at < length b → runMark (getD b at 0) ≡ true → RunEnds b at r → PlainEnds b at r
-plain-run b at r here mark run =
-    let t : (escape : Bool) (depth : ℕ) → turn escape depth (drop at b) ≡ passRun depth (drop (at + 1) b) =
-    λ escape depth. turn-mark b at here (run-some (getD b at 0) mark) escape depth (getD b at 0) refl ∙ run-mark escape depth (getD b at 0) (drop (at + 1) b) mark in
+pub plain-run : (s : List ℕ) (r : ℕ) → 0 < length s → runMark (getD s 0 0) ≡ true → RunEnds s r → PlainEnds s r
+plain-run s r here mark run =
+    let t : (escape : Bool) (depth : ℕ) → turn escape depth s ≡ passRun depth (drop 1 s) =
+    λ escape depth. turn-mark escape depth s (getD s 0 0) here (run-some (getD s 0 0) mark) refl ∙ run-mark escape depth (getD s 0 0) (drop 1 s) mark in
     record { inside = run .inside; passes = λ z escape depth. t escape depth ∙ run .passes z depth; cut = λ z m escape depth. t escape depth ∙ run .cut z depth }
 
 -- what it says of the turn
-pub plain-took : (escape : Bool) (b : List ℕ) (at depth r : ℕ) → PlainEnds b at r → (r ≡ 0 → ⊥) → Took (drop at b) (turn escape depth (drop at b)) depth (r - at)
-plain-took escape b at depth r p z =
-    let l = length-drop at b in
-    let i = p .inside z in
-    let e : at + (r - at) ≡ r = omega arith in
-    record { reads = p .passes z escape depth ∙ ap (λ (j : ℕ). Read.got depth (drop j b)) (sym e) ∙ ap (Read.got depth) (sym (drop-drop (r - at) at b)); some = omega arith; within = omega arith }
-
--- a walk behind a plain field
-module _ {escape : Bool} {b : List ℕ} {start i d : ℕ} (w : Walk escape b start i d) (r : ℕ) (p : PlainEnds b i r) (z : r ≡ 0 → ⊥) where
-  there : i + (r - i) ≡ r
-  there = let h = p .inside z in omega arith
-
-  pub walk-past-plain : (d ≡ 0 → ⊥) → Walk escape b start r d
-  walk-past-plain h = subst (λ (j : ℕ). Walk escape b start j d) there (walk-on w (plain-took escape b i d r p z) h)
-
-  pub walk-end-plain : d ≡ 0 → ok r ≡ skipCall b start escape
-  walk-end-plain h = ap {B = Answer ℕ} ok (sym there) ∙ walk-end w (plain-took escape b i d r p z) h
+pub plain-took : (escape : Bool) (depth : ℕ) {s : List ℕ} {r : ℕ} → PlainEnds s r → (r ≡ 0 → ⊥) → Took s (turn escape depth s) depth r
+plain-took escape depth p z = record { reads = p .passes z escape depth; some = omega arith; within = p .inside z }
 
 -- ---- a record opens
 
@@ -187,36 +165,37 @@ and-both : (x y : Bool) → (x && y) ≡ true → (x ≡ true) × (y ≡ true)
 and-both true y e = (refl, e)
 and-both false y e = let z : _≡_ {A = ℕ} 0 1 = cc in absurd (omega arith)
 
-pub opens-both : (key : List ℕ) (at depth : ℕ) → (ltb at (length key) && (eqb (getD key at 0) 0x22 && ltb depth maxDepth)) ≡ true → (at < length key) × (getD key at 0 ≡ 0x22) × (depth < 256)
-opens-both key at depth e =
-    let h = and-both (ltb at (length key)) (eqb (getD key at 0) 0x22 && ltb depth maxDepth) e in
-    let k = and-both (eqb (getD key at 0) 0x22) (ltb depth maxDepth) (h .1) in
-    (ltb-true at (length key) (h .0), eqb-true (getD key at 0) 0x22 (k .0), ltb-true depth 256 (k .1))
+-- a byte that is not 00 is there
+byte-there : (s : List ℕ) → (getD s 0 0 ≡ 0 → ⊥) → 0 < length s
+byte-there [] some = absurd (some refl)
+byte-there (b ∷ s) some = omega arith
 
-pub turn-opens : (escape : Bool) (key : List ℕ) (at depth : ℕ) → (ltb at (length key) && (eqb (getD key at 0) 0x22 && ltb depth maxDepth)) ≡ true → Took (drop at key) (turn escape depth (drop at key)) (depth + 1) 1
+abbrev pub Opening : ℕ → List ℕ → Bool
+Opening depth s = eqb (getD s 0 0) 0x22 && ltb depth maxDepth
+
+pub opening-none : (depth : ℕ) (s : List ℕ) → length s ≡ 0 → false ≡ Opening depth s
+opening-none depth [] h = refl
+opening-none depth (b ∷ s) h = absurd (omega arith)
+
+pub opens-low : (depth : ℕ) (s : List ℕ) → Opening depth s ≡ true → depth < 256
+opens-low depth s e = ltb-true depth 256 (and-both (eqb (getD s 0 0) 0x22) (ltb depth maxDepth) e .1)
+
+pub turn-opens : (escape : Bool) (depth : ℕ) (s : List ℕ) → Opening depth s ≡ true → Took s (turn escape depth s) (depth + 1) 1
 unfolding passField
-turn-opens escape key at depth e =
-    let h = opens-both key at depth e in
-    let l = length-drop at key in
-    let r : turn escape depth (drop at key) ≡ Read.got (depth + 1) (drop (at + 1) key) = turn-mark key at (h .0) (λ z. omega (arith, h .1)) escape depth 0x22 (h .1) ∙ rw (lt-ltb depth 256 (h .2)) in
-    record { reads = r ∙ ap (Read.got (depth + 1)) (sym (drop-drop 1 at key)); some = omega arith; within = omega (arith, h .0) }
+turn-opens escape depth s e =
+    let h = eqb-true (getD s 0 0) 0x22 (and-both (eqb (getD s 0 0) 0x22) (ltb depth maxDepth) e .0) in
+    let here = byte-there s (λ z. omega arith) in
+    record {
+      reads = turn-mark escape depth s 0x22 here (λ z. omega arith) h ∙ rw (lt-ltb depth 256 (opens-low depth s e));
+      some = omega arith;
+      within = omega arith;
+    }
 
 -- ---- what is left
 
--- a byte that is not 00 stands inside
-byte-inside : (b : List ℕ) (at : ℕ) → (getD b at 0 ≡ 0 → ⊥) → at < length b
-byte-inside b at some = go (ltb at (length b)) refl
-  where
-    go : (t : Bool) → ltb at (length b) ≡ t → at < length b
-    go true e = ltb-true at (length b) e
-    go false e = absurd (some (List·getD-eq-default b 0 (ltb-false at (length b) e)))
-
-pub left : (escape : Bool) (b : List ℕ) (at depth : ℕ) → PlainEnds b at 0 → (ltb at (length b) && (eqb (getD b at 0) 0x22 && ltb depth maxDepth)) ≡ false → Ending depth (drop at b) ≡ false → Left escape depth (drop at b)
-left escape b at depth p o e =
+pub left : (escape : Bool) (depth : ℕ) (s : List ℕ) → PlainEnds s 0 → Opening depth s ≡ false → Ending depth s ≡ false → Left escape depth s
+left escape depth s p o e =
     record {
-      cut = λ m. sym (turn-field escape depth (drop at b) e) ∙ p .cut refl (rw (first-byte b at) at m) escape depth;
-      deep = λ m. deep (sym (first-byte b at) ∙ m);
+      cut = λ m. sym (turn-field escape depth s e) ∙ p .cut refl m escape depth;
+      deep = λ m. ltb-false depth 256 (rw (eq-eqb (getD s 0 0) 0x22 m) at o);
     }
-  where
-    deep : getD b at 0 ≡ 0x22 → maxDepth ≤ depth
-    deep m = ltb-false depth 256 (rw (lt-ltb at (length b) (byte-inside b at (λ z. omega arith)), eq-eqb (getD b at 0) 0x22 m) at o)

@@ -59,17 +59,17 @@ pub record Width (m r : ℕ) : Type 0 where
   pub passes : r < 9 → (escape : Bool) (depth : ℕ) (s : List ℕ) → passField escape depth m s ≡ passBytes r depth s
   pub other : 9 ≤ r → numberMark m ≡ false
 
--- r is the place behind the run whose mark is at a place, and 0 if it does not end
-pub record RunEnds (key : List ℕ) (at r : ℕ) : Type 0 where
-  pub inside : (r ≡ 0 → ⊥) → (at < r) × (r ≤ length key)
-  pub passes : (r ≡ 0 → ⊥) → (depth : ℕ) → passRun depth (drop (at + 1) key) ≡ Read.got depth (drop r key)
-  pub cut : r ≡ 0 → (depth : ℕ) → passRun depth (drop (at + 1) key) ≡ Read.bad UnexpectedEof 0
+-- the run behind the first byte takes r bytes, that byte included; r is 0 if it does not end
+pub record RunEnds (s : List ℕ) (r : ℕ) : Type 0 where
+  pub inside : (r ≡ 0 → ⊥) → r ≤ length s
+  pub passes : (r ≡ 0 → ⊥) → (depth : ℕ) → passRun depth (drop 1 s) ≡ Read.got depth (drop r s)
+  pub cut : r ≡ 0 → (depth : ℕ) → passRun depth (drop 1 s) ≡ Read.bad UnexpectedEof 0
 
--- r is the place behind the plain field at a place, whatever groups are open, and 0 if none is there or it is cut short
-pub record PlainEnds (key : List ℕ) (at r : ℕ) : Type 0 where
-  pub inside : (r ≡ 0 → ⊥) → (at < r) × (r ≤ length key)
-  pub passes : (r ≡ 0 → ⊥) → (escape : Bool) (depth : ℕ) → turn escape depth (drop at key) ≡ Read.got depth (drop r key)
-  pub cut : r ≡ 0 → (numberMark (getD key at 0) || runMark (getD key at 0)) ≡ true → (escape : Bool) (depth : ℕ) → turn escape depth (drop at key) ≡ Read.bad UnexpectedEof 0
+-- the plain field that the bytes begin with takes r of them, whatever groups are open; r is 0 if none is there or it is cut short
+pub record PlainEnds (s : List ℕ) (r : ℕ) : Type 0 where
+  pub inside : (r ≡ 0 → ⊥) → r ≤ length s
+  pub passes : (r ≡ 0 → ⊥) → (escape : Bool) (depth : ℕ) → turn escape depth s ≡ Read.got depth (drop r s)
+  pub cut : r ≡ 0 → (numberMark (getD s 0 0) || runMark (getD s 0 0)) ≡ true → (escape : Bool) (depth : ℕ) → turn escape depth s ≡ Read.bad UnexpectedEof 0
 
 -- what is left when nothing plain was passed and no record was opened: a plain field is cut short, a record too deep
 pub record Left (escape : Bool) (depth : ℕ) (s : List ℕ) : Type 0 where

@@ -36,19 +36,19 @@ fn escape_follows(bytes: &[u8], at: usize) -> bool
 }
 
 // Is a group open, and does it end here? Its end is a 00 not followed by FF.
-fn group_ends(bytes: &[u8], at: usize, depth: u32) -> bool
-    ensures { λ r. ⌜ r ≡ (ltb 0 depth && endsHere (drop at (now (bytes .entry)))) ⌝ }
+fn group_ends(rest: &[u8], depth: u32) -> bool
+    ensures { λ r. ⌜ r ≡ (ltb 0 depth && endsHere (now (rest .entry))) ⌝ }
 {
     if depth == 0 {
         return false;
     }
-    if bytes.len() <= at {
+    if rest.len() == 0 {
         return false;
     }
-    if bytes[at] != format::MARK_TERM {
+    if rest[0] != format::MARK_TERM {
         return false;
     }
-    !escape_follows(bytes, at)
+    !escape_follows(rest, 0)
 }
 
 // A null that must have its escape.
@@ -130,56 +130,57 @@ fn number_width(mark: u8) -> usize
     9
 }
 
-// The place behind the run whose mark is at a place; 0 if it does not end.
-fn run_end(bytes: &[u8], at: usize) -> usize
-    requires { ⌜ at < length (now bytes) ⌝ }
-    ensures { λ r. ⌜ RunEnds (now (bytes .entry)) at r ⌝ }
+// How many bytes a run takes, its mark in front of it; 0 if it does not end.
+fn run_end(rest: &[u8]) -> usize
+    requires { ⌜ 0 < length (now rest) ⌝ }
+    ensures { λ r. ⌜ RunEnds (now (rest .entry)) r ⌝ }
 {
-    let mut i = at + 1;
+    let mut i: usize = 1;
     loop {
-        let z = blocks::zero_from(bytes, i);
-        if bytes.len() <= z {
+        let z = blocks::zero_from(rest, i);
+        if rest.len() <= z {
             return 0;
         }
-        if !escape_follows(bytes, z) {
+        if !escape_follows(rest, z) {
             return z + 1;
         }
         i = z + 2;
     }
 }
 
-// The place behind the integer, the reference or the run at a place; 0 for anything else, and where it is cut short. It opens and closes no group.
-fn plain_end(bytes: &[u8], at: usize) -> usize
-    ensures { λ r. ⌜ PlainEnds (now (bytes .entry)) at r ⌝ }
+// How many bytes the integer, the reference or the run takes that the rest of a key begins with; 0 for anything else, and where it is cut short. It opens and
+// closes no group.
+fn plain_end(rest: &[u8]) -> usize
+    ensures { λ r. ⌜ PlainEnds (now (rest .entry)) r ⌝ }
 {
-    if bytes.len() <= at {
+    if rest.len() == 0 {
         return 0;
     }
-    let mark = bytes[at];
+    let mark = rest[0];
     let width = number_width(mark);
     if width < 9 {
-        if bytes.len() - at <= width {
+        if rest.len() <= width {
             return 0;
         }
-        return at + width + 1;
+        return width + 1;
     }
     if mark == format::MARK_STRING {
-        return run_end(bytes, at);
+        return run_end(rest);
     }
     if mark == format::MARK_BYTES {
-        return run_end(bytes, at);
+        return run_end(rest);
     }
     0
 }
 
 // Does a record open here, and may it?
-fn record_opens(bytes: &[u8], at: usize, depth: u32) -> bool
-    ensures { λ r. ⌜ r ≡ (ltb at (length (now (bytes .entry))) && (eqb (getD (now (bytes .entry)) at 0) 0x22 && ltb depth maxDepth)) ⌝ }
+fn record_opens(rest: &[u8], depth: u32) -> bool
+    ensures { λ r. ⌜ r ≡ (eqb (getD (now (rest .entry)) 0 0) 0x22 && ltb depth maxDepth) ⌝ }
 {
-    if bytes.len() <= at {
+    if rest.len() == 0 {
         return false;
     }
-    if bytes[at] != format::MARK_RECORD {
+    if rest[0] != format::MARK_RECORD {
         return false;
     }
     depth < format::MAX_RECORD_DEPTH
@@ -196,19 +197,19 @@ pub fn skip(bytes: &[u8], start: usize, require_escape_null: bool) -> Skipped
     let mut depth: u32 = 0;
     let end = 'groups: loop {
         loop {
-            let next = plain_end(bytes, i);
-            if next == 0 {
+            let n = plain_end(&bytes[i..]);
+            if n == 0 {
                 break;
             }
-            i = next;
+            i += n;
             if depth == 0 {
                 break 'groups i;
             }
         }
-        if record_opens(bytes, i, depth) {
+        if record_opens(&bytes[i..], depth) {
             i += 1;
             depth += 1;
-        } else if group_ends(bytes, i, depth) {
+        } else if group_ends(&bytes[i..], depth) {
             i += 1;
             depth -= 1;
             if depth == 0 {
