@@ -1,9 +1,8 @@
-// Lines of text: their fields, the numbers and lists that these hold, and text written into a buffer. Every call is total.
+// Lines of text: their fields, and the numbers and lists that these hold. Every call is total.
 mod elements;
 mod fields;
 mod lists;
 mod numbers;
-mod report;
 
 pub use elements::byte_room;
 pub use elements::bytes;
@@ -22,6 +21,3 @@ pub use lists::Parsed;
 pub use numbers::Number;
 pub use numbers::decimal;
 pub use numbers::is_decimal;
-pub use report::append;
-pub use report::append_decimal;
-pub use report::append_hex;

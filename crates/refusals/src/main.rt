@@ -113,47 +113,83 @@ fn strinc_line(prefix: &[u8]) {
     }
 }
 
-fn first_six() {
+fn unexpected_eof() {
     show::text(b"1\n");
     decode_line(&[1], b"");
+}
+
+fn unexpected_mark() {
     show::text(b"2\n");
     decode_line(&[1], b"\x21\x00");
+}
+
+fn unexpected_terminator() {
     show::text(b"3\n");
     skip_line(b"\x00", 0, true);
     skip_line(b"\x00", 0, false);
     skip_line(b"\x00\xff", 0, true);
+}
+
+fn bad_string() {
     show::text(b"4\n");
     decode_line(&[2], b"\x21\x80\x00");
+}
+
+fn bad_integer() {
     show::text(b"5\n");
     decode_line(&[1], b"\x4a\x00\x01");
+}
+
+fn bad_record() {
     show::text(b"6\n");
     encode_line(&[5, 1, 1], &[5, 0], b"");
 }
 
-fn eight_to_twelve() {
+fn fact_ref_predicate() {
     show::text(b"8\n");
     encode_line(&[4, 7], &[4, 0x8_0000_0001], b"");
     encode_line(&[4, 7], &[4, 0x7_0000_0001], b"");
+}
+
+fn reserved_fact_id() {
     show::text(b"9\n");
     decode_line(&[4, 0], b"\x51\x00\x00\x00\x00\x00\x00\x00\x00");
+}
+
+fn unknown_discriminant() {
     show::text(b"10\n");
     decode_line(&[6, 1, 1, 1], b"\x52\x49\x02\x48\x00");
     decode_line(&[6, 1, 1, 1], b"\x52\x49\x01\x48\x00");
+}
+
+fn type_mismatch() {
     show::text(b"11\n");
     encode_line(&[1], &[0], b"");
+}
+
+fn bad_union() {
     show::text(b"12\n");
     encode_line(&[6, 1, 1, 1], &[6, 1, 0], b"");
     encode_line(&[6, 1, 1, 1], &[6, 1, 1, 0], b"");
 }
 
-fn thirteen_to_sixteen() {
+fn overflow() {
     show::text(b"13\n");
     decode_line(&[1], b"\x50\x80\x00\x00\x00\x00\x00\x00\x00");
+}
+
+fn underflow() {
     show::text(b"14\n");
     decode_line(&[1], b"\x40\x7f\xff\xff\xff\xff\xff\xff\xfe");
+}
+
+fn bad_type() {
     show::text(b"15\n");
     encode_line(&[], &[1, 0], b"");
     decode_line(&[], b"\x48");
+}
+
+fn bad_value() {
     show::text(b"16\n");
     encode_line(&[2], &[2, 5], b"abc");
     compare_line(&[1, 7], &[1]);
@@ -161,31 +197,76 @@ fn thirteen_to_sixteen() {
     compare_line(&[0], &[1, 7]);
 }
 
-fn seventeen_to_nineteen() {
+fn no_room() {
     let mut none = [0u8; 0];
     show::text(b"17\n");
     encoded(encode::encode_typed(&[1], &[1, 0], b"", &mut none), b"");
+}
+
+fn no_field() {
     show::text(b"18\n");
     replace_line(2, &[1, 0]);
     bounds_line(&[1], b"\x48", 0);
     bounds_line(&[5, 2, 3, 1], b"\x53\x0a\x00\x49\x07", 3);
+}
+
+// The same calls, accepted.
+fn fields() {
     bounds_line(&[5, 2, 3, 1], b"\x53\x0a\x00\x49\x07", 1);
     replace_line(1, &[1, 0]);
     replace_line(1, &[1, 256]);
+}
+
+fn no_bound() {
     show::text(b"19\n");
     strinc_line(b"\xff");
     strinc_line(b"\x0a\xff");
 }
 
-fn keys() {
+// The calls that give each number, where a whole call can; 7 comes with the longest key, 20 is keylist's.
+fn of_the_bytes() {
+    unexpected_eof();
+    unexpected_mark();
+    unexpected_terminator();
+    bad_string();
+    bad_integer();
+    bad_record();
+}
+
+fn of_the_value() {
+    fact_ref_predicate();
+    reserved_fact_id();
+    unknown_discriminant();
+    type_mismatch();
+    bad_union();
+    overflow();
+    underflow();
+}
+
+fn of_the_port() {
+    bad_type();
+    bad_value();
+    no_room();
+    no_field();
+    fields();
+    no_bound();
+}
+
+fn encoded_keys() {
     show::text(b"keys\n");
     key_line(&[5, 0], &[5, 0], b"");
     encode_line(&[5, 0], &[5, 0], b"");
     key_line(&[5, 2, 3, 1], &[5, 2, 3, 1, 1, 7], b"\x0a");
+}
+
+fn decoded_keys() {
     decode_key_line(&[5, 2, 3, 1], b"\x53\x0a\x00\x49\x07");
     decode_key_line(&[5, 2, 3, 1], b"\x53\x0a\x00\xff\x00\x49\x07");
     decode_key_line(&[5, 2, 3, 1], b"\x53\x0a");
     decode_key_line(&[5, 2, 3, 1], b"\x53\x0a\x00\x49\x07\x00");
+}
+
+fn skipped_fields() {
     skip_line(b"\x53\x0a\x00\xff\x00\x49\x07", 0, false);
     skip_line(b"\x53\x0a\x00\xff\x00\x49\x07", 5, false);
     skip_line(b"\x53\x0a\x00\xff\x00\x49\x07", 8, false);
@@ -261,11 +342,12 @@ fn longest_key() {
 }
 
 fn main() {
-    first_six();
-    eight_to_twelve();
-    thirteen_to_sixteen();
-    seventeen_to_nineteen();
-    keys();
+    of_the_bytes();
+    of_the_value();
+    of_the_port();
+    encoded_keys();
+    decoded_keys();
+    skipped_fields();
     nested_records();
     longest_key();
 }

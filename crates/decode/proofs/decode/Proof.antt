@@ -3,48 +3,34 @@ use Rattle.decode.proofs.TopLaws as laws
 use borrow.Author.Needs.{needs}
 use Rattle.decode.proofs.decode.Statement.{statement}
 use Rattle.decode.proofs.decode.Tie as tie
-use Rattle.decode.proofs.decode.Reads as reads
-use Rattle.decode.proofs.decode.Lts as lts
-use Rattle.decode.proofs.measure.Reads as measure-reads
-use Rattle.decode.proofs.put_sheet.Reads as put-sheet-reads
 
--- src/lib.rt:134:11
 measure-requires : tie.Need-measure-requires
 measure-requires c κs = search needs
 
--- src/lib.rt:135:28
 enum-known-no : tie.Need-enum-known-no
 enum-known-no c = search needs
 
--- src/lib.rt:137:20
 enum-known-w : tie.Need-enum-known-w
 enum-known-w c = search needs
 
--- src/lib.rt:142:17
 returns : tie.Need-returns
 returns c = let a = c .before .before .before .before .before .before .before .before .before .args in laws.f-words (a .bare) (a .ty .now) (a .bytes .now) (a .words .now) (a .pool .now) (c .before .before .before .before .measure .result) (c .before .before .before .before .measure .ensures) _ _ _ (c .before .before .w .given .1) (search needs) (c .if1 .taken)
 
--- src/lib.rt:149:17
 returns-2 : tie.Need-returns-2
 returns-2 c = let a = c .before .before .before .before .before .before .before .before .before .before .args in laws.f-pool (a .bare) (a .ty .now) (a .bytes .now) (a .words .now) (a .pool .now) (c .before .before .before .before .before .measure .result) (c .before .before .before .before .before .measure .ensures) _ _ _ (c .before .before .before .w .given .1) (c .before .if1 .left) (search needs) (c .if2 .taken)
 
--- src/lib.rt:155:13
 put-sheet-requires : tie.Need-put-sheet-requires
 put-sheet-requires c κs = let a = c .before .before .before .before .before .before .before .before .before .before .before .before .args in laws.f-type (a .bare) (a .ty .now) (a .bytes .now) (a .words .now) (a .pool .now) (c .before .before .before .before .before .before .before .measure .result) (c .before .before .before .before .before .before .before .measure .ensures) _ _ _ (c .before .before .before .before .before .w .given .1)
 
--- src/lib.rt:131:1
 returns-3 : tie.Need-returns-3
 returns-3 c = let a = c .before .before .before .before .before .before .before .before .args in laws.f-bad (a .bare) (a .ty .now) (a .bytes .now) (a .words .now) (a .pool .now) (c .before .before .before .measure .result) (c .before .before .before .measure .ensures) _ _ _ (c .before .no .given .1)
 
--- src/lib.rt:131:1
 same-length : tie.Need-same-length
 same-length c = search needs
 
--- src/lib.rt:131:1
 same-length-2 : tie.Need-same-length-2
 same-length-2 c = search needs
 
--- src/lib.rt:131:1
 returns-4 : tie.Need-returns-4
 returns-4 c = let a = c .before .before .before .before .before .before .before .before .before .before .before .before .before .before .before .before .before .args in laws.f-done (a .bare) (a .ty .now) (a .bytes .now) (a .words .now) (a .pool .now) (c .before .before .before .before .before .before .before .before .before .before .before .before .measure .result) (c .before .before .before .before .before .before .before .before .before .before .before .before .measure .ensures) _ _ _ (c .before .before .before .before .before .before .before .before .before .before .w .given .1) (c .before .before .before .before .before .before .before .before .if1 .left) (c .before .before .before .before .before .before .before .if2 .left) _ _ (c .before .before .before .before .put-sheet .ensures)
 

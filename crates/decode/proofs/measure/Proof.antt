@@ -5,24 +5,16 @@ use borrow.Author.Tests.{not-true, not-false}
 use borrow.Author.Needs.{needs}
 use Rattle.decode.proofs.measure.Statement.{statement}
 use Rattle.decode.proofs.measure.Tie as tie
-use Rattle.decode.proofs.measure.Reads as reads
-use Rattle.decode.proofs.measure.Lts as lts
-use Rattle.decode.proofs.measure_admitted.Reads as measure-admitted-reads
-use Rattle.sheet.proofs.admit_type.Reads as admit-type-reads
 
--- src/lib.rt:108:9
 admit-type-requires : tie.Need-admit-type-requires
 admit-type-requires c κs = search needs
 
--- src/lib.rt:109:9
 returns : tie.Need-returns
 returns c = let a = c .before .before .before .before .args in laws.m-type (a .bare) (a .ty .now) (a .bytes .now) (c .before .admit-type .result) (c .before .admit-type .ensures) (not-true _ (c .if1 .taken))
 
--- src/lib.rt:115:5
 measure-admitted-requires : tie.Need-measure-admitted-requires
 measure-admitted-requires c κs = sym (c .before .admit-type .ensures) ∙ not-false _ (c .if1 .left)
 
--- src/lib.rt:105:1
 returns-2 : tie.Need-returns-2
 returns-2 c = search needs
 

@@ -5,45 +5,31 @@ use mathlib.Core.Bool.{true}
 use borrow.Author.Needs.{needs}
 use Rattle.decode.proofs.measure_admitted.Statement.{statement}
 use Rattle.decode.proofs.measure_admitted.Tie as tie
-use Rattle.decode.proofs.measure_admitted.Reads as reads
-use Rattle.decode.proofs.measure_admitted.Lts as lts
-use Rattle.decode.proofs.walk.Reads as walk-reads
-use Rattle.decode.proofs.wide.Reads as wide-reads
-use Rattle.decode.proofs.word_count.Reads as word-count-reads
 
--- src/lib.rt:80:11
 walk-requires : tie.Need-walk-requires
 walk-requires c κs = let s = c .before .before in let a = s .args in laws.type-at (a .ty .now) true (sym (s .pre)) refl
 
--- src/lib.rt:81:23
 enum-known-no : tie.Need-enum-known-no
 enum-known-no c = search needs
 
--- src/lib.rt:84:13
 enum-known-next : tie.Need-enum-known-next
 enum-known-next c = search needs
 
--- src/lib.rt:91:34
 shared-slice-read-wide : tie.Need-shared-slice-read-wide
 shared-slice-read-wide c = search needs
 
--- src/lib.rt:91:29
 wide-requires : tie.Need-wide-requires
 wide-requires c κs = search needs
 
--- src/lib.rt:89:17
 returns : tie.Need-returns
 returns c = let s = c .before .before .before .before .before .before .before .before .before in let a = s .args in laws.m-left (a .bare) (a .ty .now) (a .bytes .now) true (sym (s .pre)) refl (c .before .before .before .before .before .before .walk .result) (c .before .before .before .before .before .before .walk .ensures) _ _ _ _ (c .before .before .before .before .next .given .1) _ (c .before .before .if1 .taken) (c .wide .ensures)
 
--- src/lib.rt:96:24
 word-count-requires : tie.Need-word-count-requires
 word-count-requires c κs = let s = c .before .before .before .before .before .before .before in let a = s .args in (laws.type-at (a .ty .now) true (sym (s .pre)) refl, laws.m-few (a .bare) (a .ty .now) (a .bytes .now) true (sym (s .pre)) refl (c .before .before .before .before .walk .result) (c .before .before .before .before .walk .ensures) _ _ _ _ (c .before .before .next .given .1))
 
--- src/lib.rt:76:1
 returns-2 : tie.Need-returns-2
 returns-2 c = let s = c .before .before .before .before .before .before in let a = s .args in laws.m-bad (a .bare) (a .ty .now) (a .bytes .now) true (sym (s .pre)) refl (c .before .before .before .walk .result) (c .before .before .before .walk .ensures) _ _ _ (c .before .no .given .1)
 
--- src/lib.rt:76:1
 returns-3 : tie.Need-returns-3
 returns-3 c = let s = c .before .before .before .before .before .before .before .before in let a = s .args in laws.m-done (a .bare) (a .ty .now) (a .bytes .now) true (sym (s .pre)) refl (c .before .before .before .before .before .walk .result) (c .before .before .before .before .before .walk .ensures) _ _ _ _ (c .before .before .before .next .given .1) (c .before .if1 .left) _ (c .word-count .ensures)
 

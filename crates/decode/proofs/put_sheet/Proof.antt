@@ -3,45 +3,31 @@ use Rattle.decode.proofs.TopLaws as laws
 use borrow.Author.Needs.{needs}
 use Rattle.decode.proofs.put_sheet.Statement.{statement}
 use Rattle.decode.proofs.put_sheet.Tie as tie
-use Rattle.decode.proofs.put_sheet.Reads as reads
-use Rattle.decode.proofs.put_sheet.Lts as lts
-use Rattle.decode.proofs.top_bare.Reads as top-bare-reads
-use Rattle.fill.proofs.fill_bare.Reads as fill-bare-reads
-use Rattle.fill.proofs.fill_value.Reads as fill-value-reads
 
--- src/lib.rt:123:8
 top-bare-requires : tie.Need-top-bare-requires
 top-bare-requires c κs = search needs
 
--- src/lib.rt:124:9
 fill-bare-requires : tie.Need-fill-bare-requires
 fill-bare-requires c κs = search needs
 
--- src/lib.rt:125:9
 same-length : tie.Need-same-length
 same-length c = search needs
 
--- src/lib.rt:125:9
 same-length-2 : tie.Need-same-length-2
 same-length-2 c = search needs
 
--- src/lib.rt:125:9
 returns : tie.Need-returns
 returns c = let a = c .before .before .before .before .before .before .before .before .before .before .before .before .before .args in laws.filled-bare (a .bare) (a .ty .now) (a .bytes .now) (a .words .now) (a .pool .now) _ _ (c .before .before .before .before .before .before .before .before .top-bare .result) (c .before .before .before .before .before .before .before .before .top-bare .ensures) (c .before .before .before .before .before .before .before .if1 .taken) (c .before .before .before .before .fill-bare .ensures)
 
--- src/lib.rt:127:5
 fill-value-requires : tie.Need-fill-value-requires
 fill-value-requires c κs = search needs
 
--- src/lib.rt:119:1
 same-length-3 : tie.Need-same-length-3
 same-length-3 c = search needs
 
--- src/lib.rt:119:1
 same-length-4 : tie.Need-same-length-4
 same-length-4 c = search needs
 
--- src/lib.rt:119:1
 returns-2 : tie.Need-returns-2
 returns-2 c = let a = c .before .before .before .before .before .before .before .before .before .before .before .before .before .args in laws.filled-value (a .bare) (a .ty .now) (a .bytes .now) (a .words .now) (a .pool .now) _ _ (c .before .before .before .before .before .before .before .before .top-bare .result) (c .before .before .before .before .before .before .before .before .top-bare .ensures) (c .before .before .before .before .before .before .before .if1 .left) (c .before .before .before .before .fill-value .ensures)
 

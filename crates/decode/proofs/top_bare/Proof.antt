@@ -5,22 +5,16 @@ use borrow.Author.Tests.{not-true, not-false}
 use Rattle.read.proofs.WalkLaws as read
 use Rattle.decode.proofs.top_bare.Statement.{statement}
 use Rattle.decode.proofs.top_bare.Tie as tie
-use Rattle.decode.proofs.top_bare.Reads as reads
-use Rattle.decode.proofs.top_bare.Lts as lts
 
--- src/lib.rt:44:9
 returns : tie.Need-returns
 returns c = let s = c .before in let a = s .args in laws.top-group (a .ty .now) (a .bare) (not-true _ (c .if1 .taken))
 
--- src/lib.rt:46:8
 shared-slice-read-if2 : tie.Need-shared-slice-read-if2
 shared-slice-read-if2 c = let s = c .before .before in let a = s .args in omega (arith, read.at-in (a .ty .now) 0 (s .pre))
 
--- src/lib.rt:47:9
 returns-2 : tie.Need-returns-2
 returns-2 c = let s = c .before .before .before in let a = s .args in laws.top-record (a .ty .now) (a .bare) (not-false _ (c .before .before .if1 .left)) (c .if2 .taken)
 
--- src/lib.rt:39:1
 returns-3 : tie.Need-returns-3
 returns-3 c = let s = c .before .before .before in let a = s .args in laws.top-other (a .ty .now) (a .bare) (not-false _ (c .before .before .if1 .left)) (c .if2 .left)
 

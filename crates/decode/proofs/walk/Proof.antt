@@ -3,24 +3,16 @@ use Rattle.decode.proofs.TopLaws as laws
 use borrow.Author.Needs.{needs}
 use Rattle.decode.proofs.walk.Statement.{statement}
 use Rattle.decode.proofs.walk.Tie as tie
-use Rattle.decode.proofs.walk.Reads as reads
-use Rattle.decode.proofs.walk.Lts as lts
-use Rattle.read.proofs.walk_key.Reads as walk-key-reads
-use Rattle.read.proofs.walk_value.Reads as walk-value-reads
 
--- src/lib.rt:58:9
 walk-key-requires : tie.Need-walk-key-requires
 walk-key-requires c κs = search needs
 
--- src/lib.rt:60:9
 walk-value-requires : tie.Need-walk-value-requires
 walk-value-requires c κs = search needs
 
--- src/lib.rt:53:1
 returns : tie.Need-returns
 returns c = let a = c .before .before .before .before .args in laws.key-walk (a .ty .now) (a .bytes .now) _ (a .bare) (c .before .if1 .taken) (c .walk-key .ensures)
 
--- src/lib.rt:53:1
 returns-2 : tie.Need-returns-2
 returns-2 c = let a = c .before .before .before .before .args in laws.value-walk (a .ty .now) (a .bytes .now) _ (a .bare) (c .before .if1 .left) (c .walk-value .ensures)
 

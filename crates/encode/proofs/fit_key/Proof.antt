@@ -4,77 +4,55 @@ use Rattle.encode.proofs.Keys as keys
 use borrow.Author.Needs.{needs}
 use Rattle.encode.proofs.fit_key.Statement.{statement}
 use Rattle.encode.proofs.fit_key.Tie as tie
-use Rattle.encode.proofs.fit_key.Reads as reads
-use Rattle.encode.proofs.fit_key.Lts as lts
-use Rattle.fit.proofs.fit_fields.Reads as fit-fields-reads
-use Rattle.fit.proofs.fit_value.Reads as fit-value-reads
-use Rattle.fit.proofs.refuse.Reads as refuse-reads
 
--- src/lib.rt:44:9
 fit-value-requires : tie.Need-fit-value-requires
 fit-value-requires c κs = search needs
 
--- src/lib.rt:44:9
 returns : tie.Need-returns
 returns c = let a = c .before .before .before .before .args in record { says = λ pool. keys.key-whole (a .ty .now) (a .words .now) pool _ (keys.whole-short (a .ty .now) (a .words .now) pool (c .before .if1 .taken)) (c .fit-value .ensures .says) }
 
--- src/lib.rt:46:8
 shared-slice-read-if2 : tie.Need-shared-slice-read-if2
 shared-slice-read-if2 c = search needs
 
--- src/lib.rt:47:9
 fit-value-requires-2 : tie.Need-fit-value-requires-2
 fit-value-requires-2 c κs = search needs
 
--- src/lib.rt:47:9
 returns-2 : tie.Need-returns-2
 returns-2 c = let a = c .before .before .before .before .before .before .args in record { says = λ pool. keys.key-whole (a .ty .now) (a .words .now) pool _ (keys.whole-kind (a .ty .now) (a .words .now) pool (c .before .if2 .taken)) (c .fit-value2 .ensures .says) }
 
--- src/lib.rt:50:9
 refuse-requires : tie.Need-refuse-requires
 refuse-requires c κs = search needs
 
--- src/lib.rt:50:9
 returns-3 : tie.Need-returns-3
 returns-3 c = let a = c .before .before .before .before .before .before .before .args in record { says = λ pool. keys.key-null (a .ty .now) (a .words .now) pool (c .before .before .if2 .left) _ (c .before .if3 .taken) (c .refuse .ensures) }
 
--- src/lib.rt:52:8
 shared-slice-read-if4 : tie.Need-shared-slice-read-if4
 shared-slice-read-if4 c = search needs
 
--- src/lib.rt:53:9
 refuse-requires-2 : tie.Need-refuse-requires-2
 refuse-requires-2 c κs = search needs
 
--- src/lib.rt:53:9
 returns-4 : tie.Need-returns-4
 returns-4 c = let a = c .before .before .before .before .before .before .before .before .before .args in record { says = λ pool. keys.key-kind (a .ty .now) (a .words .now) pool (c .before .before .before .before .if2 .left) _ (c .before .if4 .taken) (c .refuse2 .ensures) }
 
--- src/lib.rt:55:17
 shared-slice-read-count : tie.Need-shared-slice-read-count
 shared-slice-read-count c = search needs
 
--- src/lib.rt:56:8
 shared-slice-read-if5 : tie.Need-shared-slice-read-if5
 shared-slice-read-if5 c = search needs
 
--- src/lib.rt:56:20
 cast-if5 : tie.Need-cast-if5
 cast-if5 c = omega (arith, c .before .shared-slice-known5 .given 1)
 
--- src/lib.rt:57:9
 refuse-requires-3 : tie.Need-refuse-requires-3
 refuse-requires-3 c κs = search needs
 
--- src/lib.rt:57:9
 returns-5 : tie.Need-returns-5
 returns-5 c = let a = c .before .before .before .before .before .before .before .before .before .before .before .before .args in record { says = λ pool. keys.key-count (a .ty .now) (a .words .now) pool (c .before .before .before .before .before .before .before .if2 .left) (c .before .before .before .before .if4 .left) _ refl _ (c .before .if5 .taken) (c .refuse3 .ensures) }
 
--- src/lib.rt:59:5
 fit-fields-requires : tie.Need-fit-fields-requires
 fit-fields-requires c κs = search needs
 
--- src/lib.rt:39:1
 returns-6 : tie.Need-returns-6
 returns-6 c = let a = c .before .before .before .before .before .before .before .before .before .before .before .before .args in record { says = λ pool. keys.key-fields (a .ty .now) (a .words .now) pool (c .before .before .before .before .before .before .before .if2 .left) (c .before .before .before .before .if4 .left) _ refl _ (c .before .if5 .left) (c .fit-fields .ensures .says) }
 

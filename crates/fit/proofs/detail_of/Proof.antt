@@ -1,10 +1,7 @@
 use Rattle.fit.proofs.Steps as laws
 use Rattle.fit.proofs.detail_of.Statement.{statement}
 use Rattle.fit.proofs.detail_of.Tie as tie
-use Rattle.fit.proofs.detail_of.Reads as reads
-use Rattle.fit.proofs.detail_of.Lts as lts
 
--- src/lib.rt:56:1
 returns : tie.Need-returns
 returns c = laws.low-is (c .args .r)
 

@@ -5,10 +5,6 @@ use native.Mathlib.Omega.{arith}
 use Rattle.fit.proofs.Sums as sums
 use Rattle.fit.proofs.encoded_len.Statement.{statement}
 use Rattle.fit.proofs.encoded_len.Tie as tie
-use Rattle.fit.proofs.encoded_len.Reads as reads
-use Rattle.fit.proofs.encoded_len.Lts as lts
-use Rattle.fit.proofs.item_len.Reads as item-len-reads
-use Rattle.fit.proofs.run_of.Reads as run-of-reads
 
 abbrev Inv-loop : tie.InvT-loop
 Inv-loop words pool from w₀ p₀ len₀ w p len = sums.Summing words pool from w p len
@@ -16,71 +12,54 @@ Inv-loop words pool from w₀ p₀ len₀ w p len = sums.Summing words pool from
 abbrev μ-loop : tie.MeasureT-loop
 μ-loop words pool from w₀ p₀ len₀ w p len = length words - w
 
--- src/lib.rt:287:5
 loop-holds : tie.Need-loop-holds Inv-loop μ-loop
 loop-holds c = search needs
 
--- src/lib.rt:287:16
 sub-loop : tie.Need-sub-loop Inv-loop μ-loop
 sub-loop c = search needs
 
--- src/lib.rt:288:20
 mul-kind : tie.Need-mul-kind Inv-loop μ-loop
 mul-kind c = search needs
 
--- src/lib.rt:288:20
 shared-slice-read-kind : tie.Need-shared-slice-read-kind Inv-loop μ-loop
 shared-slice-read-kind c = search needs
 
--- src/lib.rt:289:23
 add-x : tie.Need-add-x Inv-loop μ-loop
 add-x c = search needs
 
--- src/lib.rt:289:17
 mul-x : tie.Need-mul-x Inv-loop μ-loop
 mul-x c = search needs
 
--- src/lib.rt:289:17
 shared-slice-read-x : tie.Need-shared-slice-read-x Inv-loop μ-loop
 shared-slice-read-x c = search needs
 
--- src/lib.rt:290:33
 sub-run-of : tie.Need-sub-run-of Inv-loop μ-loop
 sub-run-of c = search needs
 
--- src/lib.rt:290:13
 run-of-requires : tie.Need-run-of-requires Inv-loop μ-loop
 run-of-requires c κs = search needs
 
--- src/lib.rt:291:43
 add-item-len : tie.Need-add-item-len Inv-loop μ-loop
 add-item-len c = search needs
 
--- src/lib.rt:291:16
 item-len-requires : tie.Need-item-len-requires Inv-loop μ-loop
 item-len-requires c κs = search needs
 
--- src/lib.rt:291:9
 add-len : tie.Need-add-len Inv-loop μ-loop
 add-len c = search needs
 
--- src/lib.rt:292:9
 add-p : tie.Need-add-p Inv-loop μ-loop
 add-p c = search needs
 
--- src/lib.rt:293:9
 add-w : tie.Need-add-w Inv-loop μ-loop
 add-w c = search needs
 
--- src/lib.rt:287:5
 loop-less : tie.Need-loop-less Inv-loop μ-loop
 loop-less c = search needs
 
--- src/lib.rt:287:5
 loop-again : tie.Need-loop-again Inv-loop μ-loop
 loop-again c = let a = c .before .before .before .before .before .before .before .before .args in let l = c .before .before .before .before .before .loop in let i = l .inv in let st = sums.sum-step (a .words .now) (a .pool .now) (l .w) (l .p) _ (omega (arith, c .before .before .before .before .loop-test .taken)) (i .pool-in) (c .before .run-of .ensures) in record { word-in = omega (arith, c .before .before .before .before .loop-test .taken, i .word-in); pool-in = omega (arith, i .pool-in, c .before .run-of .ensures .inside); brief = omega (arith, i .brief, c .item-len .ensures .1); so-far = omega (arith, i .so-far, st, c .item-len .ensures .0) }
 
--- src/lib.rt:280:1
 returns : tie.Need-returns Inv-loop μ-loop
 returns c = let a = c .before .before .before .before .args in let l = c .before .loop in let i = l .inv in let en = sums.sum-end (a .words .now) (drop (l .p) (a .pool .now)) (l .w) (omega (arith, c .loop-test .left)) in (omega (arith, i .so-far, en), omega (arith, i .brief, i .word-in, i .pool-in))
 

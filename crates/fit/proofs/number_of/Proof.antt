@@ -2,18 +2,13 @@ use Rattle.fit.proofs.Steps as laws
 use borrow.Author.Needs.{needs}
 use Rattle.fit.proofs.number_of.Statement.{statement}
 use Rattle.fit.proofs.number_of.Tie as tie
-use Rattle.fit.proofs.number_of.Reads as reads
-use Rattle.fit.proofs.number_of.Lts as lts
 
--- src/lib.rt:52:7
 sub-result : tie.Need-sub-result
 sub-result c = search needs
 
--- src/lib.rt:52:5
 cast-result : tie.Need-cast-result
 cast-result c = search needs
 
--- src/lib.rt:48:1
 returns : tie.Need-returns
 returns c = laws.number-is (c .args .r) (c .pre)
 

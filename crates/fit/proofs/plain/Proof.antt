@@ -4,96 +4,70 @@ use native.Mathlib.Omega.{arith}
 use Rattle.fit.proofs.Steps as laws
 use Rattle.fit.proofs.plain.Statement.{statement}
 use Rattle.fit.proofs.plain.Tie as tie
-use Rattle.fit.proofs.plain.Reads as reads
-use Rattle.fit.proofs.plain.Lts as lts
-use Rattle.fit.proofs.ref_refusal.Reads as ref-refusal-reads
-use Rattle.fit.proofs.wide.Reads as wide-reads
 
--- src/lib.rt:94:9
 returns : tie.Need-returns
 returns c = let a = c .before .before .before .args in laws.no-plain (a .ty .now) (a .words .now) _ _
 
--- src/lib.rt:96:8
 sub-if2 : tie.Need-sub-if2
 sub-if2 c = search needs
 
--- src/lib.rt:97:9
 returns-2 : tie.Need-returns-2
 returns-2 c = let a = c .before .before .before .before .args in laws.no-plain (a .ty .now) (a .words .now) _ _
 
--- src/lib.rt:99:16
 mul-kind : tie.Need-mul-kind
 mul-kind c = search needs
 
--- src/lib.rt:99:16
 shared-slice-read-kind : tie.Need-shared-slice-read-kind
 shared-slice-read-kind c = search needs
 
--- src/lib.rt:100:8
 mul-if3 : tie.Need-mul-if3
 mul-if3 c = search needs
 
--- src/lib.rt:100:8
 shared-slice-read-if3 : tie.Need-shared-slice-read-if3
 shared-slice-read-if3 c = search needs
 
--- src/lib.rt:100:20
 wide-requires : tie.Need-wide-requires
 wide-requires c κs = search needs
 
--- src/lib.rt:101:9
 returns-3 : tie.Need-returns-3
 returns-3 c = let a = c .before .before .before .before .before .before .before .before .args in laws.no-plain (a .ty .now) (a .words .now) _ _
 
--- src/lib.rt:104:9
 returns-4 : tie.Need-returns-4
 returns-4 c = let a = c .before .before .before .before .before .before .before .before .before .args in record { type-in = λ z. omega (arith, c .before .before .before .before .before .before .if1 .left); word-in = λ z. omega (arith, c .before .before .before .before .before .if2 .left, c .before .before .before .before .before .before .before .before .before .pre); says = λ z depth end. laws.a-plain (a .ty .now) (a .words .now) depth end (a .t) (a .w) _ refl (c .before .if3 .left ∙ c .before .before .wide .ensures) (c .if4 .taken) }
 
--- src/lib.rt:107:9
 returns-5 : tie.Need-returns-5
 returns-5 c = let a = c .before .before .before .before .before .before .before .before .before .before .args in laws.no-plain (a .ty .now) (a .words .now) _ _
 
--- src/lib.rt:109:8
 sub-if6 : tie.Need-sub-if6
 sub-if6 c = search needs
 
--- src/lib.rt:110:9
 returns-6 : tie.Need-returns-6
 returns-6 c = let a = c .before .before .before .before .before .before .before .before .before .before .before .args in laws.no-plain (a .ty .now) (a .words .now) _ _
 
--- src/lib.rt:112:23
 add-ref-refusal : tie.Need-add-ref-refusal
 add-ref-refusal c = search needs
 
--- src/lib.rt:112:20
 mul-ref-refusal : tie.Need-mul-ref-refusal
 mul-ref-refusal c = search needs
 
--- src/lib.rt:112:20
 shared-slice-read-ref-refusal : tie.Need-shared-slice-read-ref-refusal
 shared-slice-read-ref-refusal c = search needs
 
--- src/lib.rt:112:37
 add-ref-refusal-2 : tie.Need-add-ref-refusal-2
 add-ref-refusal-2 c = search needs
 
--- src/lib.rt:112:31
 mul-ref-refusal-2 : tie.Need-mul-ref-refusal-2
 mul-ref-refusal-2 c = search needs
 
--- src/lib.rt:112:31
 shared-slice-read-ref-refusal-2 : tie.Need-shared-slice-read-ref-refusal-2
 shared-slice-read-ref-refusal-2 c = search needs
 
--- src/lib.rt:112:8
 ref-refusal-requires : tie.Need-ref-refusal-requires
 ref-refusal-requires c κs = search needs
 
--- src/lib.rt:113:9
 returns-7 : tie.Need-returns-7
 returns-7 c = let a = c .before .before .before .before .before .before .before .before .before .before .before .before .before .before .before .args in laws.no-plain (a .ty .now) (a .words .now) _ _
 
--- src/lib.rt:89:1
 returns-8 : tie.Need-returns-8
 returns-8 c = let a = c .before .before .before .before .before .before .before .before .before .before .before .before .before .before .before .args in record { type-in = λ z. omega (arith, c .before .before .before .before .before .before .before .before .before .before .before .before .if1 .left, c .before .before .before .before .if6 .left); word-in = λ z. omega (arith, c .before .before .before .before .before .before .before .before .before .before .before .if2 .left, c .before .before .before .before .before .before .before .before .before .before .before .before .before .before .before .pre); says = λ z depth end. laws.a-ref (a .ty .now) (a .words .now) depth end (a .t) (a .w) _ refl (c .before .before .before .before .before .before .before .if3 .left ∙ c .before .before .before .before .before .before .before .before .wide .ensures) _ refl (c .before .before .before .before .before .if5 .left) _ _ refl (c .before .ref-refusal .ensures) (c .if7 .left) }
 

@@ -3,27 +3,19 @@ use Rattle.fit.proofs.Steps as laws
 use borrow.Author.Needs.{needs}
 use Rattle.fit.proofs.refuse.Statement.{statement}
 use Rattle.fit.proofs.refuse.Tie as tie
-use Rattle.fit.proofs.refuse.Reads as reads
-use Rattle.fit.proofs.refuse.Lts as lts
-use Rattle.fit.proofs.wide.Reads as wide-reads
 
--- src/lib.rt:30:15
 wide-requires : tie.Need-wide-requires
 wide-requires c κs = search needs
 
--- src/lib.rt:30:15
 mul-result : tie.Need-mul-result
 mul-result c = search needs
 
--- src/lib.rt:30:5
 add-result : tie.Need-add-result
 add-result c = search needs
 
--- src/lib.rt:30:5
 add-result-2 : tie.Need-add-result-2
 add-result-2 c = search needs
 
--- src/lib.rt:26:1
 returns : tie.Need-returns
 returns c = laws.refuses (c .before .args .no) (c .before .args .detail) _ (c .before .pre) (omega (arith, c .wide .ensures))
 

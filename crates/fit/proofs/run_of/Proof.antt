@@ -4,27 +4,19 @@ use Rattle.fit.proofs.Sums as sums
 use borrow.Author.Needs.{needs}
 use Rattle.fit.proofs.run_of.Statement.{statement}
 use Rattle.fit.proofs.run_of.Tie as tie
-use Rattle.fit.proofs.run_of.Reads as reads
-use Rattle.fit.proofs.run_of.Lts as lts
-use Rattle.fit.proofs.least.Reads as least-reads
 
--- src/lib.rt:245:9
 least-requires : tie.Need-least-requires
 least-requires c κs = search needs
 
--- src/lib.rt:245:9
 returns : tie.Need-returns
 returns c = rw (← sums.run-str (c .before .before .args .kind) (c .before .before .args .x) (c .before .if1 .taken)) (c .least .ensures)
 
--- src/lib.rt:248:9
 least-requires-2 : tie.Need-least-requires-2
 least-requires-2 c κs = search needs
 
--- src/lib.rt:248:9
 returns-2 : tie.Need-returns-2
 returns-2 c = rw (← sums.run-raw (c .before .before .before .args .kind) (c .before .before .before .args .x) (c .before .before .if1 .left) (c .before .if2 .taken)) (c .least2 .ensures)
 
--- src/lib.rt:241:1
 returns-3 : tie.Need-returns-3
 returns-3 c = rw (← sums.run-none (c .before .before .args .kind) (c .before .before .args .x) (c .before .if1 .left) (c .if2 .left)) (record { inside = omega arith; whole = λ h. refl; cut = λ h. omega arith })
 

@@ -3,18 +3,13 @@ use Rattle.fit.proofs.Steps as laws
 use borrow.Author.Needs.{needs}
 use Rattle.fit.proofs.stand.Statement.{statement}
 use Rattle.fit.proofs.stand.Tie as tie
-use Rattle.fit.proofs.stand.Reads as reads
-use Rattle.fit.proofs.stand.Lts as lts
 
--- src/lib.rt:22:25
 mul-result : tie.Need-mul-result
 mul-result c = search needs
 
--- src/lib.rt:22:5
 add-result : tie.Need-add-result
 add-result c = search needs
 
--- src/lib.rt:18:1
 returns : tie.Need-returns
 returns c = laws.stands (c .args .t) (c .args .w) _ (c .pre) refl
 

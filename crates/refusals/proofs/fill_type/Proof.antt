@@ -5,10 +5,6 @@ use Prim.Native.Nat.{_-_}
 use lib.ListN.{length}
 use Rattle.refusals.proofs.fill_type.Statement.{statement}
 use Rattle.refusals.proofs.fill_type.Tie as tie
-use Rattle.refusals.proofs.fill_type.Reads as reads
-use Rattle.refusals.proofs.fill_type.Lts as lts
-use Rattle.refusals.proofs.last_of.Reads as last-of-reads
-use Rattle.refusals.proofs.type_at.Reads as type-at-reads
 
 abbrev Inv-loop : tie.InvT-loop
 Inv-loop ty₀ last i₀ i-end ty i = i-end ≡ length ty
@@ -16,43 +12,33 @@ Inv-loop ty₀ last i₀ i-end ty i = i-end ≡ length ty
 abbrev μ-loop : tie.MeasureT-loop
 μ-loop ty₀ last i₀ i-end ty i = i-end - i
 
--- src/main.rt:215:9
 last-of-requires : tie.Need-last-of-requires Inv-loop μ-loop
 last-of-requires c κs = search needs
 
--- src/main.rt:216:5
 loop-holds : tie.Need-loop-holds Inv-loop μ-loop
 loop-holds c = search needs
 
--- src/main.rt:217:17
 type-at-requires : tie.Need-type-at-requires Inv-loop μ-loop
 type-at-requires c κs = search needs
 
--- src/main.rt:217:9
 mul-ty : tie.Need-mul-ty Inv-loop μ-loop
 mul-ty c = search needs
 
--- src/main.rt:217:9
 slice-write-ty : tie.Need-slice-write-ty Inv-loop μ-loop
 slice-write-ty c = search needs
 
--- src/main.rt:216:9
 add-i : tie.Need-add-i Inv-loop μ-loop
 add-i c = search needs
 
--- src/main.rt:216:5
 loop-less : tie.Need-loop-less Inv-loop μ-loop
 loop-less c = search needs
 
--- src/main.rt:216:5
 loop-again : tie.Need-loop-again Inv-loop μ-loop
 loop-again c = search needs
 
--- src/main.rt:214:1
 same-length : tie.Need-same-length Inv-loop μ-loop
 same-length c = search needs
 
--- src/main.rt:214:1
 returns : tie.Need-returns Inv-loop μ-loop
 returns c = search needs
 

@@ -5,10 +5,6 @@ use Prim.Native.Nat.{_-_}
 use lib.ListN.{length}
 use Rattle.refusals.proofs.fill_words.Statement.{statement}
 use Rattle.refusals.proofs.fill_words.Tie as tie
-use Rattle.refusals.proofs.fill_words.Reads as reads
-use Rattle.refusals.proofs.fill_words.Lts as lts
-use Rattle.refusals.proofs.last_of.Reads as last-of-reads
-use Rattle.refusals.proofs.word_at.Reads as word-at-reads
 
 abbrev Inv-loop : tie.InvT-loop
 Inv-loop words₀ last i₀ i-end words i = i-end ≡ length words
@@ -16,43 +12,33 @@ Inv-loop words₀ last i₀ i-end words i = i-end ≡ length words
 abbrev μ-loop : tie.MeasureT-loop
 μ-loop words₀ last i₀ i-end words i = i-end - i
 
--- src/main.rt:222:9
 last-of-requires : tie.Need-last-of-requires Inv-loop μ-loop
 last-of-requires c κs = search needs
 
--- src/main.rt:223:5
 loop-holds : tie.Need-loop-holds Inv-loop μ-loop
 loop-holds c = search needs
 
--- src/main.rt:224:20
 word-at-requires : tie.Need-word-at-requires Inv-loop μ-loop
 word-at-requires c κs = search needs
 
--- src/main.rt:224:9
 mul-words : tie.Need-mul-words Inv-loop μ-loop
 mul-words c = search needs
 
--- src/main.rt:224:9
 slice-write-words : tie.Need-slice-write-words Inv-loop μ-loop
 slice-write-words c = search needs
 
--- src/main.rt:223:9
 add-i : tie.Need-add-i Inv-loop μ-loop
 add-i c = search needs
 
--- src/main.rt:223:5
 loop-less : tie.Need-loop-less Inv-loop μ-loop
 loop-less c = search needs
 
--- src/main.rt:223:5
 loop-again : tie.Need-loop-again Inv-loop μ-loop
 loop-again c = search needs
 
--- src/main.rt:221:1
 same-length : tie.Need-same-length Inv-loop μ-loop
 same-length c = search needs
 
--- src/main.rt:221:1
 returns : tie.Need-returns Inv-loop μ-loop
 returns c = search needs
 

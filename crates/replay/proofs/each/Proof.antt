@@ -5,10 +5,6 @@ use Prim.Native.Nat.{_-_}
 use lib.ListN.{length}
 use Rattle.replay.proofs.each.Statement.{statement}
 use Rattle.replay.proofs.each.Tie as tie
-use Rattle.replay.proofs.each.Reads as reads
-use Rattle.replay.proofs.each.Lts as lts
-use Rattle.lines.proofs.find.Reads as find-reads
-use Rattle.replay.proofs.judge.Reads as judge-reads
 
 abbrev Inv-loop : tie.InvT-loop
 Inv-loop text names counts₀ at₀ counts at = length counts ≡ length counts₀
@@ -16,47 +12,36 @@ Inv-loop text names counts₀ at₀ counts at = length counts ≡ length counts�
 abbrev μ-loop : tie.MeasureT-loop
 μ-loop text names counts₀ at₀ counts at = length text - at
 
--- src/main.rt:66:5
 loop-holds : tie.Need-loop-holds Inv-loop μ-loop
 loop-holds c = search needs
 
--- src/main.rt:67:13
 find-requires : tie.Need-find-requires Inv-loop μ-loop
 find-requires c κs = search needs
 
--- src/main.rt:68:15
 sub-judge : tie.Need-sub-judge Inv-loop μ-loop
 sub-judge c = search needs
 
--- src/main.rt:68:15
 part-judge-start : tie.Need-part-judge-start Inv-loop μ-loop
 part-judge-start c = search needs
 
--- src/main.rt:68:15
 part-judge-end : tie.Need-part-judge-end Inv-loop μ-loop
 part-judge-end c = search needs
 
--- src/main.rt:68:9
 judge-requires : tie.Need-judge-requires Inv-loop μ-loop
 judge-requires c κs = search needs
 
--- src/main.rt:69:14
 add-at : tie.Need-add-at Inv-loop μ-loop
 add-at c = search needs
 
--- src/main.rt:66:5
 loop-less : tie.Need-loop-less Inv-loop μ-loop
 loop-less c = search needs
 
--- src/main.rt:66:5
 loop-again : tie.Need-loop-again Inv-loop μ-loop
 loop-again c = search needs
 
--- src/main.rt:64:1
 same-length : tie.Need-same-length Inv-loop μ-loop
 same-length c = search needs
 
--- src/main.rt:64:1
 returns : tie.Need-returns Inv-loop μ-loop
 returns c = search needs
 

@@ -1,10 +1,7 @@
 use Rattle.lines.proofs.Rooms.{repeated}
 use Rattle.replay.proofs.list_room.Statement.{statement}
 use Rattle.replay.proofs.list_room.Tie as tie
-use Rattle.replay.proofs.list_room.Reads as reads
-use Rattle.replay.proofs.list_room.Lts as lts
 
--- src/main.rt:82:1
 returns : tie.Need-returns
 returns c = repeated 1048576
 

@@ -4,11 +4,6 @@ use Prim.Native.Nat.{_-_}
 use lib.ListN.{length}
 use Rattle.replay.proofs.totals.Statement.{statement}
 use Rattle.replay.proofs.totals.Tie as tie
-use Rattle.replay.proofs.totals.Reads as reads
-use Rattle.replay.proofs.totals.Lts as lts
-use Rattle.lines.proofs.field.Reads as field-reads
-use Rattle.show.proofs.number.Reads as number-reads
-use Rattle.show.proofs.text.Reads as text-reads
 
 abbrev Inv-loop : tie.InvT-loop
 Inv-loop names counts i₀ t4 t5 i-end i = i-end ≡ length counts
@@ -16,59 +11,45 @@ Inv-loop names counts i₀ t4 t5 i-end i = i-end ≡ length counts
 abbrev μ-loop : tie.MeasureT-loop
 μ-loop names counts i₀ t4 t5 i-end i = i-end - i
 
--- src/main.rt:74:5
 loop-holds : tie.Need-loop-holds Inv-loop μ-loop
 loop-holds c = search needs
 
--- src/main.rt:75:20
 field-requires : tie.Need-field-requires Inv-loop μ-loop
 field-requires c κs = search needs
 
--- src/main.rt:75:9
 text-requires : tie.Need-text-requires Inv-loop μ-loop
 text-requires c κs = search needs
 
--- src/main.rt:76:20
 slice-aggregate-text : tie.Need-slice-aggregate-text Inv-loop μ-loop
 slice-aggregate-text c = search needs
 
--- src/main.rt:76:9
 text-requires-2 : tie.Need-text-requires-2 Inv-loop μ-loop
 text-requires-2 c κs = search needs
 
--- src/main.rt:77:22
 mul-number : tie.Need-mul-number Inv-loop μ-loop
 mul-number c = search needs
 
--- src/main.rt:77:22
 shared-slice-read-number : tie.Need-shared-slice-read-number Inv-loop μ-loop
 shared-slice-read-number c = search needs
 
--- src/main.rt:77:9
 number-requires : tie.Need-number-requires Inv-loop μ-loop
 number-requires c κs = search needs
 
--- src/main.rt:78:20
 slice-aggregate-text-2 : tie.Need-slice-aggregate-text-2 Inv-loop μ-loop
 slice-aggregate-text-2 c = search needs
 
--- src/main.rt:78:9
 text-requires-3 : tie.Need-text-requires-3 Inv-loop μ-loop
 text-requires-3 c κs = search needs
 
--- src/main.rt:74:9
 add-i : tie.Need-add-i Inv-loop μ-loop
 add-i c = search needs
 
--- src/main.rt:74:5
 loop-less : tie.Need-loop-less Inv-loop μ-loop
 loop-less c = search needs
 
--- src/main.rt:74:5
 loop-again : tie.Need-loop-again Inv-loop μ-loop
 loop-again c = search needs
 
--- src/main.rt:73:1
 returns : tie.Need-returns Inv-loop μ-loop
 returns c = search needs
 

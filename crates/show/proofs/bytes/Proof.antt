@@ -5,9 +5,6 @@ use Prim.Native.Nat.{_-_}
 use lib.ListN.{length}
 use Rattle.show.proofs.bytes.Statement.{statement}
 use Rattle.show.proofs.bytes.Tie as tie
-use Rattle.show.proofs.bytes.Reads as reads
-use Rattle.show.proofs.bytes.Lts as lts
-use Rattle.show.proofs.digits.Reads as digits-reads
 
 abbrev Inv-loop : tie.InvT-loop
 Inv-loop s n i₀ i-end i = i-end ≡ length s
@@ -15,31 +12,24 @@ Inv-loop s n i₀ i-end i = i-end ≡ length s
 abbrev μ-loop : tie.MeasureT-loop
 μ-loop s n i₀ i-end i = i-end - i
 
--- src/lib.rt:14:5
 loop-holds : tie.Need-loop-holds Inv-loop μ-loop
 loop-holds c = search needs
 
--- src/lib.rt:16:20
 shared-slice-read-digits : tie.Need-shared-slice-read-digits Inv-loop μ-loop
 shared-slice-read-digits c = search needs
 
--- src/lib.rt:16:13
 digits-requires : tie.Need-digits-requires Inv-loop μ-loop
 digits-requires c κs = search needs
 
--- src/lib.rt:14:9
 add-i : tie.Need-add-i Inv-loop μ-loop
 add-i c = search needs
 
--- src/lib.rt:14:5
 loop-less : tie.Need-loop-less Inv-loop μ-loop
 loop-less c = search needs
 
--- src/lib.rt:14:5
 loop-again : tie.Need-loop-again Inv-loop μ-loop
 loop-again c = search needs
 
--- src/lib.rt:13:1
 returns : tie.Need-returns Inv-loop μ-loop
 returns c = search needs
 

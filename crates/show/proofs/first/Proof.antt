@@ -5,18 +5,13 @@ use lib.Seq.{length-take-le}
 use borrow.Author.Needs.{needs}
 use Rattle.show.proofs.first.Statement.{statement}
 use Rattle.show.proofs.first.Tie as tie
-use Rattle.show.proofs.first.Reads as reads
-use Rattle.show.proofs.first.Lts as lts
 
--- src/lib.rt:42:9
 slice-aggregate-result : tie.Need-slice-aggregate-result
 slice-aggregate-result c = let a = c .before .before .args in sym (length-take-le (a .n) (a .s .now) (omega (arith, c .before .if1 .taken)))
 
--- src/lib.rt:42:9
 returns : tie.Need-returns
 returns c = search needs
 
--- src/lib.rt:40:1
 returns-2 : tie.Need-returns-2
 returns-2 c = search needs
 

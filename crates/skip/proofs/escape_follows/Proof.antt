@@ -3,26 +3,19 @@ use Rattle.skip.proofs.Marks.{follows-none, follows-some}
 use borrow.Author.Needs.{needs}
 use Rattle.skip.proofs.escape_follows.Statement.{statement}
 use Rattle.skip.proofs.escape_follows.Tie as tie
-use Rattle.skip.proofs.escape_follows.Reads as reads
-use Rattle.skip.proofs.escape_follows.Lts as lts
 
--- src/lib.rt:32:8
 sub-if1 : tie.Need-sub-if1
 sub-if1 c = search needs
 
--- src/lib.rt:33:9
 returns : tie.Need-returns
 returns c = sym (follows-none (c .before .args .bytes .now) (c .before .args .at) (c .before .pre) (c .if1 .taken))
 
--- src/lib.rt:35:11
 add-result : tie.Need-add-result
 add-result c = search needs
 
--- src/lib.rt:35:5
 shared-slice-read-result : tie.Need-shared-slice-read-result
 shared-slice-read-result c = search needs
 
--- src/lib.rt:28:1
 returns-2 : tie.Need-returns-2
 returns-2 c = sym (follows-some (c .before .before .args .bytes .now) (c .before .before .args .at) (c .before .before .pre) (c .before .if1 .left))
 

@@ -6,38 +6,28 @@ use Rattle.skip.proofs.Marks.{width-below, width-above, width-negative,
 use borrow.Author.Needs.{needs}
 use Rattle.skip.proofs.number_width.Statement.{statement}
 use Rattle.skip.proofs.number_width.Tie as tie
-use Rattle.skip.proofs.number_width.Reads as reads
-use Rattle.skip.proofs.number_width.Lts as lts
 
--- src/lib.rt:183:9
 returns : tie.Need-returns
 returns c = width-below (c .before .args .mark) (c .if1 .taken)
 
--- src/lib.rt:186:17
 sub-result : tie.Need-sub-result
 sub-result c = search needs
 
--- src/lib.rt:186:16
 cast-result : tie.Need-cast-result
 cast-result c = search needs
 
--- src/lib.rt:186:9
 returns-2 : tie.Need-returns-2
 returns-2 c = width-negative (c .before .before .args .mark) (c .before .if1 .left) (c .if2 .taken)
 
--- src/lib.rt:189:16
 cast-result-2 : tie.Need-cast-result-2
 cast-result-2 c = search needs
 
--- src/lib.rt:189:9
 returns-3 : tie.Need-returns-3
 returns-3 c = width-positive (c .before .before .before .args .mark) (c .before .if2 .left) (c .if3 .taken)
 
--- src/lib.rt:192:9
 returns-4 : tie.Need-returns-4
 returns-4 c = subst (λ (m : ℕ). Width m 8) (sym (c .if4 .taken)) width-reference
 
--- src/lib.rt:179:1
 returns-5 : tie.Need-returns-5
 returns-5 c = width-above (c .before .before .before .before .args .mark) (omega (arith, c .if4 .left))
 

@@ -4,22 +4,16 @@ use Rattle.skip.proofs.Walking.{opening-none}
 use borrow.Author.Needs.{needs}
 use Rattle.skip.proofs.record_opens.Statement.{statement}
 use Rattle.skip.proofs.record_opens.Tie as tie
-use Rattle.skip.proofs.record_opens.Reads as reads
-use Rattle.skip.proofs.record_opens.Lts as lts
 
--- src/lib.rt:181:9
 returns : tie.Need-returns
 returns c = opening-none (c .before .args .depth) (c .before .args .rest .now) (c .if1 .taken)
 
--- src/lib.rt:183:8
 shared-slice-read-if2 : tie.Need-shared-slice-read-if2
 shared-slice-read-if2 c = search needs
 
--- src/lib.rt:184:9
 returns-2 : tie.Need-returns-2
 returns-2 c = rw (ne-eqb (getD (c .before .before .before .args .rest .now) 0 0) 0x22 (c .if2 .taken))
 
--- src/lib.rt:177:1
 returns-3 : tie.Need-returns-3
 returns-3 c = rw (eq-eqb (getD (c .before .before .before .args .rest .now) 0 0) 0x22 (c .if2 .left))
 

@@ -7,12 +7,6 @@ use Rattle.skip.proofs.Walking.{ends-open, turn-closes, turn-took, turn
 use borrow.Author.Needs.{needs}
 use Rattle.skip.proofs.skip.Statement.{statement}
 use Rattle.skip.proofs.skip.Tie as tie
-use Rattle.skip.proofs.skip.Reads as reads
-use Rattle.skip.proofs.skip.Lts as lts
-use Rattle.skip.proofs.group_ends.Reads as group-ends-reads
-use Rattle.skip.proofs.left_token.Reads as left-token-reads
-use Rattle.skip.proofs.plain_end.Reads as plain-end-reads
-use Rattle.skip.proofs.record_opens.Reads as record-opens-reads
 
 abbrev Inv-loop : tie.InvT-loop
 Inv-loop bytes start require-escape-null i₀ depth i = (i₀ ≤ i) × Walk require-escape-null bytes start i depth
@@ -26,159 +20,120 @@ Inv-groups bytes start require-escape-null i₀ depth₀ i depth = Walk require-
 abbrev μ-groups : tie.MeasureT-groups
 μ-groups bytes start require-escape-null i₀ depth₀ i depth = length bytes - i
 
--- src/lib.rt:194:9
 returns : tie.Need-returns Inv-loop μ-loop Inv-groups μ-groups
 returns c = walk-past _ _ _ (c .if1 .taken)
 
--- src/lib.rt:198:9
 groups-holds : tie.Need-groups-holds Inv-loop μ-loop Inv-groups μ-groups
 groups-holds c = walk-start _ _ _ (c .if1 .left)
 
--- src/lib.rt:199:9
 loop-holds : tie.Need-loop-holds Inv-loop μ-loop Inv-groups μ-groups
 loop-holds c = (omega arith, c .groups .inv)
 
--- src/lib.rt:200:31
 sub-plain-end : tie.Need-sub-plain-end Inv-loop μ-loop Inv-groups μ-groups
 sub-plain-end c = omega (arith, (c .loop .inv .1) .inside)
 
--- src/lib.rt:200:31
 part-plain-end-start : tie.Need-part-plain-end-start Inv-loop μ-loop Inv-groups μ-groups
 part-plain-end-start c = search needs
 
--- src/lib.rt:200:31
 part-plain-end-end : tie.Need-part-plain-end-end Inv-loop μ-loop Inv-groups μ-groups
 part-plain-end-end c = search needs
 
--- src/lib.rt:200:17
 plain-end-requires : tie.Need-plain-end-requires Inv-loop μ-loop Inv-groups μ-groups
 plain-end-requires c κs = search needs
 
--- src/lib.rt:204:13
 add-i : tie.Need-add-i Inv-loop μ-loop Inv-groups μ-groups
 add-i c = omega (arith, walk-within (c .before .before .before .loop .inv .1) (plain-took (c .before .before .before .before .before .before .before .args .require-escape-null) (c .before .before .before .before .groups .depth) (rw (part-rest (c .before .before .before .loop .i) (c .before .before .before .before .before .before .before .args .bytes .now)) at (c .before .plain-end .ensures)) (c .if2 .left)))
 
--- src/lib.rt:199:9
 loop-less : tie.Need-loop-less Inv-loop μ-loop Inv-groups μ-groups
 loop-less c = omega (arith, walk-within (c .before .before .before .before .loop .inv .1) (plain-took (c .before .before .before .before .before .before .before .before .args .require-escape-null) (c .before .before .before .before .before .groups .depth) (rw (part-rest (c .before .before .before .before .loop .i) (c .before .before .before .before .before .before .before .before .args .bytes .now)) at (c .before .before .plain-end .ensures)) (c .before .if2 .left)))
 
--- src/lib.rt:199:9
 loop-again : tie.Need-loop-again Inv-loop μ-loop Inv-groups μ-groups
 loop-again c = (omega (arith, c .before .before .before .before .loop .inv .0), walk-on (c .before .before .before .before .loop .inv .1) (plain-took (c .before .before .before .before .before .before .before .before .args .require-escape-null) (c .before .before .before .before .before .groups .depth) (rw (part-rest (c .before .before .before .before .loop .i) (c .before .before .before .before .before .before .before .before .args .bytes .now)) at (c .before .before .plain-end .ensures)) (c .before .if2 .left)) (c .if3 .left))
 
--- src/lib.rt:209:25
 sub-record-opens : tie.Need-sub-record-opens Inv-loop μ-loop Inv-groups μ-groups
 sub-record-opens c = omega (arith, (c .before .before .before .loop .inv .1) .inside)
 
--- src/lib.rt:209:25
 part-record-opens-start : tie.Need-part-record-opens-start Inv-loop μ-loop Inv-groups μ-groups
 part-record-opens-start c = search needs
 
--- src/lib.rt:209:25
 part-record-opens-end : tie.Need-part-record-opens-end Inv-loop μ-loop Inv-groups μ-groups
 part-record-opens-end c = search needs
 
--- src/lib.rt:209:12
 record-opens-requires : tie.Need-record-opens-requires Inv-loop μ-loop Inv-groups μ-groups
 record-opens-requires c κs = search needs
 
--- src/lib.rt:210:13
 add-i-2 : tie.Need-add-i-2 Inv-loop μ-loop Inv-groups μ-groups
 add-i-2 c = omega (arith, walk-within (c .before .before .before .before .before .before .loop .inv .1) (turn-opens (c .before .before .before .before .before .before .before .before .before .before .args .require-escape-null) (c .before .before .before .before .before .before .before .groups .depth) (drop (c .before .before .before .before .before .before .loop .i) (c .before .before .before .before .before .before .before .before .before .before .args .bytes .now)) (sym (rw (part-rest (c .before .before .before .before .before .before .loop .i) (c .before .before .before .before .before .before .before .before .before .before .args .bytes .now)) at (c .before .record-opens .ensures)) ∙ c .if4 .taken)))
 
--- src/lib.rt:211:13
 add-depth : tie.Need-add-depth Inv-loop μ-loop Inv-groups μ-groups
 add-depth c = omega (arith, opens-low (c .before .before .before .before .before .before .before .groups .depth) (drop (c .before .before .before .before .before .before .loop .i) (c .before .before .before .before .before .before .before .before .before .before .args .bytes .now)) (sym (rw (part-rest (c .before .before .before .before .before .before .loop .i) (c .before .before .before .before .before .before .before .before .before .before .args .bytes .now)) at (c .before .record-opens .ensures)) ∙ c .if4 .taken))
 
--- src/lib.rt:198:9
 groups-less : tie.Need-groups-less Inv-loop μ-loop Inv-groups μ-groups
 groups-less c = omega (arith, c .before .before .before .before .before .before .loop .inv .0, walk-within (c .before .before .before .before .before .before .loop .inv .1) (turn-opens (c .before .before .before .before .before .before .before .before .before .before .args .require-escape-null) (c .before .before .before .before .before .before .before .groups .depth) (drop (c .before .before .before .before .before .before .loop .i) (c .before .before .before .before .before .before .before .before .before .before .args .bytes .now)) (sym (rw (part-rest (c .before .before .before .before .before .before .loop .i) (c .before .before .before .before .before .before .before .before .before .before .args .bytes .now)) at (c .before .record-opens .ensures)) ∙ c .if4 .taken)))
 
--- src/lib.rt:198:9
 groups-again : tie.Need-groups-again Inv-loop μ-loop Inv-groups μ-groups
 groups-again c = walk-on (c .before .before .before .before .before .before .loop .inv .1) (turn-opens (c .before .before .before .before .before .before .before .before .before .before .args .require-escape-null) (c .before .before .before .before .before .before .before .groups .depth) (drop (c .before .before .before .before .before .before .loop .i) (c .before .before .before .before .before .before .before .before .before .before .args .bytes .now)) (sym (rw (part-rest (c .before .before .before .before .before .before .loop .i) (c .before .before .before .before .before .before .before .before .before .before .args .bytes .now)) at (c .before .record-opens .ensures)) ∙ c .if4 .taken)) (λ z. omega arith)
 
--- src/lib.rt:212:30
 sub-group-ends : tie.Need-sub-group-ends Inv-loop μ-loop Inv-groups μ-groups
 sub-group-ends c = omega (arith, (c .before .before .before .before .before .before .loop .inv .1) .inside)
 
--- src/lib.rt:212:30
 part-group-ends-start : tie.Need-part-group-ends-start Inv-loop μ-loop Inv-groups μ-groups
 part-group-ends-start c = search needs
 
--- src/lib.rt:212:30
 part-group-ends-end : tie.Need-part-group-ends-end Inv-loop μ-loop Inv-groups μ-groups
 part-group-ends-end c = search needs
 
--- src/lib.rt:212:19
 group-ends-requires : tie.Need-group-ends-requires Inv-loop μ-loop Inv-groups μ-groups
 group-ends-requires c κs = search needs
 
--- src/lib.rt:213:13
 add-i-3 : tie.Need-add-i-3 Inv-loop μ-loop Inv-groups μ-groups
 add-i-3 c = omega (arith, walk-within (c .before .before .before .before .before .before .before .before .before .loop .inv .1) (turn-closes (c .before .before .before .before .before .before .before .before .before .before .before .before .before .args .require-escape-null) (c .before .before .before .before .before .before .before .before .before .before .groups .depth) (drop (c .before .before .before .before .before .before .before .before .before .loop .i) (c .before .before .before .before .before .before .before .before .before .before .before .before .before .args .bytes .now)) (sym (rw (part-rest (c .before .before .before .before .before .before .before .before .before .loop .i) (c .before .before .before .before .before .before .before .before .before .before .before .before .before .args .bytes .now)) at (c .before .group-ends .ensures)) ∙ c .if5 .taken)))
 
--- src/lib.rt:214:13
 sub-depth : tie.Need-sub-depth Inv-loop μ-loop Inv-groups μ-groups
 sub-depth c = omega (arith, ends-open (c .before .before .before .before .before .before .before .before .before .before .groups .depth) (drop (c .before .before .before .before .before .before .before .before .before .loop .i) (c .before .before .before .before .before .before .before .before .before .before .before .before .before .args .bytes .now)) (sym (rw (part-rest (c .before .before .before .before .before .before .before .before .before .loop .i) (c .before .before .before .before .before .before .before .before .before .before .before .before .before .args .bytes .now)) at (c .before .group-ends .ensures)) ∙ c .if5 .taken))
 
--- src/lib.rt:198:9
 groups-less-2 : tie.Need-groups-less-2 Inv-loop μ-loop Inv-groups μ-groups
 groups-less-2 c = omega (arith, c .before .before .before .before .before .before .before .before .before .before .loop .inv .0, walk-within (c .before .before .before .before .before .before .before .before .before .before .loop .inv .1) (turn-closes (c .before .before .before .before .before .before .before .before .before .before .before .before .before .before .args .require-escape-null) (c .before .before .before .before .before .before .before .before .before .before .before .groups .depth) (drop (c .before .before .before .before .before .before .before .before .before .before .loop .i) (c .before .before .before .before .before .before .before .before .before .before .before .before .before .before .args .bytes .now)) (sym (rw (part-rest (c .before .before .before .before .before .before .before .before .before .before .loop .i) (c .before .before .before .before .before .before .before .before .before .before .before .before .before .before .args .bytes .now)) at (c .before .before .group-ends .ensures)) ∙ c .before .if5 .taken)))
 
--- src/lib.rt:198:9
 groups-again-2 : tie.Need-groups-again-2 Inv-loop μ-loop Inv-groups μ-groups
 groups-again-2 c = walk-on (c .before .before .before .before .before .before .before .before .before .before .loop .inv .1) (turn-closes (c .before .before .before .before .before .before .before .before .before .before .before .before .before .before .args .require-escape-null) (c .before .before .before .before .before .before .before .before .before .before .before .groups .depth) (drop (c .before .before .before .before .before .before .before .before .before .before .loop .i) (c .before .before .before .before .before .before .before .before .before .before .before .before .before .before .args .bytes .now)) (sym (rw (part-rest (c .before .before .before .before .before .before .before .before .before .before .loop .i) (c .before .before .before .before .before .before .before .before .before .before .before .before .before .before .args .bytes .now)) at (c .before .before .group-ends .ensures)) ∙ c .before .if5 .taken)) (c .if6 .left)
 
--- src/lib.rt:219:30
 sub-left-token : tie.Need-sub-left-token Inv-loop μ-loop Inv-groups μ-groups
 sub-left-token c = omega (arith, (c .before .before .before .before .before .before .before .before .before .loop .inv .1) .inside)
 
--- src/lib.rt:219:30
 part-left-token-start : tie.Need-part-left-token-start Inv-loop μ-loop Inv-groups μ-groups
 part-left-token-start c = search needs
 
--- src/lib.rt:219:30
 part-left-token-end : tie.Need-part-left-token-end Inv-loop μ-loop Inv-groups μ-groups
 part-left-token-end c = search needs
 
--- src/lib.rt:219:19
 left-token-requires : tie.Need-left-token-requires Inv-loop μ-loop Inv-groups μ-groups
 left-token-requires c κs = rw (part-rest (c .before .before .before .before .before .before .before .before .before .before .loop .i) (c .before .before .before .before .before .before .before .before .before .before .before .before .before .before .args .bytes .now)) (left (c .before .before .before .before .before .before .before .before .before .before .before .before .before .before .args .require-escape-null) (c .before .before .before .before .before .before .before .before .before .before .before .groups .depth) (drop (c .before .before .before .before .before .before .before .before .before .before .loop .i) (c .before .before .before .before .before .before .before .before .before .before .before .before .before .before .args .bytes .now)) (rw (part-rest (c .before .before .before .before .before .before .before .before .before .before .loop .i) (c .before .before .before .before .before .before .before .before .before .before .before .before .before .before .args .bytes .now), c .before .before .before .before .before .before .before .if2 .taken) at (c .before .before .before .before .before .before .before .before .plain-end .ensures)) (sym (rw (part-rest (c .before .before .before .before .before .before .before .before .before .before .loop .i) (c .before .before .before .before .before .before .before .before .before .before .before .before .before .before .args .bytes .now)) at (c .before .before .before .before .before .record-opens .ensures)) ∙ c .before .before .before .before .if4 .left) (sym (rw (part-rest (c .before .before .before .before .before .before .before .before .before .before .loop .i) (c .before .before .before .before .before .before .before .before .before .before .before .before .before .before .args .bytes .now)) at (c .before .before .group-ends .ensures)) ∙ c .before .if5 .left))
 
--- src/lib.rt:220:31
 enum-known-inner : tie.Need-enum-known-inner Inv-loop μ-loop Inv-groups μ-groups
 enum-known-inner c = search needs
 
--- src/lib.rt:221:21
 add-i-4 : tie.Need-add-i-4 Inv-loop μ-loop Inv-groups μ-groups
 add-i-4 c = omega (arith, walk-within (c .before .before .before .before .before .before .before .before .before .before .before .before .before .before .loop .inv .1) (turn-took (c .before .before .before .before .before .before .before .before .before .before .before .before .before .before .before .before .before .before .args .require-escape-null) (c .before .before .before .before .before .before .before .before .before .before .before .before .before .before .before .groups .depth) (drop (c .before .before .before .before .before .before .before .before .before .before .before .before .before .before .loop .i) (c .before .before .before .before .before .before .before .before .before .before .before .before .before .before .before .before .before .before .args .bytes .now)) (sym (rw (part-rest (c .before .before .before .before .before .before .before .before .before .before .before .before .before .before .loop .i) (c .before .before .before .before .before .before .before .before .before .before .before .before .before .before .before .before .before .before .args .bytes .now)) at (c .before .before .before .before .before .before .group-ends .ensures)) ∙ c .before .before .before .before .before .if5 .left) (rw (part-rest (c .before .before .before .before .before .before .before .before .before .before .before .before .before .before .loop .i) (c .before .before .before .before .before .before .before .before .before .before .before .before .before .before .before .before .before .before .args .bytes .now), c .before .inner .given .1) at (c .before .before .before .left-token .ensures))))
 
--- src/lib.rt:198:9
 groups-less-3 : tie.Need-groups-less-3 Inv-loop μ-loop Inv-groups μ-groups
 groups-less-3 c = omega (arith, c .before .before .before .before .before .before .before .before .before .before .before .before .before .before .before .loop .inv .0, walk-within (c .before .before .before .before .before .before .before .before .before .before .before .before .before .before .before .loop .inv .1) (turn-took (c .before .before .before .before .before .before .before .before .before .before .before .before .before .before .before .before .before .before .before .args .require-escape-null) (c .before .before .before .before .before .before .before .before .before .before .before .before .before .before .before .before .groups .depth) (drop (c .before .before .before .before .before .before .before .before .before .before .before .before .before .before .before .loop .i) (c .before .before .before .before .before .before .before .before .before .before .before .before .before .before .before .before .before .before .before .args .bytes .now)) (sym (rw (part-rest (c .before .before .before .before .before .before .before .before .before .before .before .before .before .before .before .loop .i) (c .before .before .before .before .before .before .before .before .before .before .before .before .before .before .before .before .before .before .before .args .bytes .now)) at (c .before .before .before .before .before .before .before .group-ends .ensures)) ∙ c .before .before .before .before .before .before .if5 .left) (rw (part-rest (c .before .before .before .before .before .before .before .before .before .before .before .before .before .before .before .loop .i) (c .before .before .before .before .before .before .before .before .before .before .before .before .before .before .before .before .before .before .before .args .bytes .now), c .before .before .inner .given .1) at (c .before .before .before .before .left-token .ensures))))
 
--- src/lib.rt:198:9
 groups-again-3 : tie.Need-groups-again-3 Inv-loop μ-loop Inv-groups μ-groups
 groups-again-3 c = walk-on (c .before .before .before .before .before .before .before .before .before .before .before .before .before .before .before .loop .inv .1) (turn-took (c .before .before .before .before .before .before .before .before .before .before .before .before .before .before .before .before .before .before .before .args .require-escape-null) (c .before .before .before .before .before .before .before .before .before .before .before .before .before .before .before .before .groups .depth) (drop (c .before .before .before .before .before .before .before .before .before .before .before .before .before .before .before .loop .i) (c .before .before .before .before .before .before .before .before .before .before .before .before .before .before .before .before .before .before .before .args .bytes .now)) (sym (rw (part-rest (c .before .before .before .before .before .before .before .before .before .before .before .before .before .before .before .loop .i) (c .before .before .before .before .before .before .before .before .before .before .before .before .before .before .before .before .before .before .before .args .bytes .now)) at (c .before .before .before .before .before .before .before .group-ends .ensures)) ∙ c .before .before .before .before .before .before .if5 .left) (rw (part-rest (c .before .before .before .before .before .before .before .before .before .before .before .before .before .before .before .loop .i) (c .before .before .before .before .before .before .before .before .before .before .before .before .before .before .before .before .before .before .before .args .bytes .now), c .before .before .inner .given .1) at (c .before .before .before .before .left-token .ensures))) (c .if7 .left)
 
--- src/lib.rt:227:28
 enum-known-no : tie.Need-enum-known-no Inv-loop μ-loop Inv-groups μ-groups
 enum-known-no c = search needs
 
--- src/lib.rt:227:43
 returns-2 : tie.Need-returns-2 Inv-loop μ-loop Inv-groups μ-groups
 returns-2 c = walk-bad (c .before .before .before .before .before .before .before .before .before .before .before .before .before .before .loop .inv .1) (turn-refuses (c .before .before .before .before .before .before .before .before .before .before .before .before .before .before .before .before .before .before .args .require-escape-null) (c .before .before .before .before .before .before .before .before .before .before .before .before .before .before .before .groups .depth) (drop (c .before .before .before .before .before .before .before .before .before .before .before .before .before .before .loop .i) (c .before .before .before .before .before .before .before .before .before .before .before .before .before .before .before .before .before .before .args .bytes .now)) (sym (rw (part-rest (c .before .before .before .before .before .before .before .before .before .before .before .before .before .before .loop .i) (c .before .before .before .before .before .before .before .before .before .before .before .before .before .before .before .before .before .before .args .bytes .now)) at (c .before .before .before .before .before .before .group-ends .ensures)) ∙ c .before .before .before .before .before .if5 .left) (rw (part-rest (c .before .before .before .before .before .before .before .before .before .before .before .before .before .before .loop .i) (c .before .before .before .before .before .before .before .before .before .before .before .before .before .before .before .before .before .before .args .bytes .now), c .before .no .given .1) at (c .before .before .before .left-token .ensures)))
 
--- src/lib.rt:190:1
 returns-3 : tie.Need-returns-3 Inv-loop μ-loop Inv-groups μ-groups
 returns-3 c = walk-end (c .before .before .before .before .loop .inv .1) (plain-took (c .before .before .before .before .before .before .before .before .args .require-escape-null) (c .before .before .before .before .before .groups .depth) (rw (part-rest (c .before .before .before .before .loop .i) (c .before .before .before .before .before .before .before .before .args .bytes .now)) at (c .before .before .plain-end .ensures)) (c .before .if2 .left)) (c .if3 .taken)
 
--- src/lib.rt:190:1
 returns-4 : tie.Need-returns-4 Inv-loop μ-loop Inv-groups μ-groups
 returns-4 c = walk-end (c .before .before .before .before .before .before .before .before .before .before .loop .inv .1) (turn-closes (c .before .before .before .before .before .before .before .before .before .before .before .before .before .before .args .require-escape-null) (c .before .before .before .before .before .before .before .before .before .before .before .groups .depth) (drop (c .before .before .before .before .before .before .before .before .before .before .loop .i) (c .before .before .before .before .before .before .before .before .before .before .before .before .before .before .args .bytes .now)) (sym (rw (part-rest (c .before .before .before .before .before .before .before .before .before .before .loop .i) (c .before .before .before .before .before .before .before .before .before .before .before .before .before .before .args .bytes .now)) at (c .before .before .group-ends .ensures)) ∙ c .before .if5 .taken)) (c .if6 .taken)
 
--- src/lib.rt:190:1
 returns-5 : tie.Need-returns-5 Inv-loop μ-loop Inv-groups μ-groups
 returns-5 c = walk-end (c .before .before .before .before .before .before .before .before .before .before .before .before .before .before .before .loop .inv .1) (turn-took (c .before .before .before .before .before .before .before .before .before .before .before .before .before .before .before .before .before .before .before .args .require-escape-null) (c .before .before .before .before .before .before .before .before .before .before .before .before .before .before .before .before .groups .depth) (drop (c .before .before .before .before .before .before .before .before .before .before .before .before .before .before .before .loop .i) (c .before .before .before .before .before .before .before .before .before .before .before .before .before .before .before .before .before .before .before .args .bytes .now)) (sym (rw (part-rest (c .before .before .before .before .before .before .before .before .before .before .before .before .before .before .before .loop .i) (c .before .before .before .before .before .before .before .before .before .before .before .before .before .before .before .before .before .before .before .args .bytes .now)) at (c .before .before .before .before .before .before .before .group-ends .ensures)) ∙ c .before .before .before .before .before .before .if5 .left) (rw (part-rest (c .before .before .before .before .before .before .before .before .before .before .before .before .before .before .before .loop .i) (c .before .before .before .before .before .before .before .before .before .before .before .before .before .before .before .before .before .before .before .args .bytes .now), c .before .before .inner .given .1) at (c .before .before .before .before .left-token .ensures))) (c .if7 .taken)
 

@@ -54,199 +54,150 @@ abbrev put-fields-μ-loop : put-fields-lts.MeasureT-loop
 put-fields-μ-loop words pool out₀ word from start count w₀ p₀ at₀ left₀ ends₀ out w p at left ends =
     18446744073709551616 * (length words - w) + left
 
--- src/lib.rt:276:5
 put-fields-loop-holds : (t : ℕ) → put-fields-lts.Need-loop-holds (put-plain-reads.Asked, put-plain-reads.Learnt, put-ends-reads.Asked, put-ends-reads.Learnt, stand-reads.Asked, stand-reads.Learnt, last-group-reads.Asked, last-group-reads.Learnt, open-group-reads.Asked, open-group-reads.Learnt, count-of-reads.Asked, count-of-reads.Learnt, put-value-below t, put-value.Post) (put-fields-at t) put-fields.Post put-fields-Inv-loop put-fields-μ-loop
 put-fields-loop-holds t c = laws.walk-start (c .before .before .before .args .words .now) (c .before .before .before .args .pool .now) (c .before .before .before .args .word) (c .before .before .before .args .from) (c .before .before .before .args .start) (c .before .before .before .args .count) (c .before .before .before .args .out .now) (c .before .before .before .pre .1 .word-in) (c .before .before .before .pre .1 .pool-in) (c .before .before .before .pre .1 .at-in)
 
--- src/lib.rt:277:13
 put-fields-put-plain-requires : (t : ℕ) → put-fields-lts.Need-put-plain-requires (put-plain-reads.Asked, put-plain-reads.Learnt, put-ends-reads.Asked, put-ends-reads.Learnt, stand-reads.Asked, stand-reads.Learnt, last-group-reads.Asked, last-group-reads.Learnt, open-group-reads.Asked, open-group-reads.Learnt, count-of-reads.Asked, count-of-reads.Learnt, put-value-below t, put-value.Post) (put-fields-at t) put-fields.Post put-fields-Inv-loop put-fields-μ-loop
 put-fields-put-plain-requires t c κs = record { word-in = c .before .loop .inv .word-in; pool-in = c .before .loop .inv .pool-in; at-in = omega (arith, c .before .loop .inv .at-in, c .before .loop .inv .kept) }
 
--- src/lib.rt:283:17
 put-fields-put-ends-requires : (t : ℕ) → put-fields-lts.Need-put-ends-requires (put-plain-reads.Asked, put-plain-reads.Learnt, put-ends-reads.Asked, put-ends-reads.Learnt, stand-reads.Asked, stand-reads.Learnt, last-group-reads.Asked, last-group-reads.Learnt, open-group-reads.Asked, open-group-reads.Learnt, count-of-reads.Asked, count-of-reads.Learnt, put-value-below t, put-value.Post) (put-fields-at t) put-fields.Post put-fields-Inv-loop put-fields-μ-loop
 put-fields-put-ends-requires t c κs = omega (arith, (laws.walk-plain (c .before .before .before .before .before .before .before .before .before .before .args .words .now) (c .before .before .before .before .before .before .before .before .before .before .args .pool .now) (c .before .before .before .before .before .before .before .before .before .before .args .word) (c .before .before .before .before .before .before .before .before .before .before .args .from) (c .before .before .before .before .before .before .before .before .before .before .args .start) (c .before .before .before .before .before .before .before .before .before .before .args .count) (c .before .before .before .before .before .before .before .before .before .before .args .out .now) (c .before .before .before .before .before .before .loop .w) (c .before .before .before .before .before .before .loop .p) (c .before .before .before .before .before .before .loop .at) (c .before .before .before .before .before .before .loop .left) (c .before .before .before .before .before .before .loop .ends) (c .before .before .before .before .before .before .loop .out) (c .before .before .before .before .before .before .loop .inv) (c .before .before .before .before .put-plain .result) _ (c .before .before .before .before .put-plain .ensures)) .at-in, (laws.walk-plain (c .before .before .before .before .before .before .before .before .before .before .args .words .now) (c .before .before .before .before .before .before .before .before .before .before .args .pool .now) (c .before .before .before .before .before .before .before .before .before .before .args .word) (c .before .before .before .before .before .before .before .before .before .before .args .from) (c .before .before .before .before .before .before .before .before .before .before .args .start) (c .before .before .before .before .before .before .before .before .before .before .args .count) (c .before .before .before .before .before .before .before .before .before .before .args .out .now) (c .before .before .before .before .before .before .loop .w) (c .before .before .before .before .before .before .loop .p) (c .before .before .before .before .before .before .loop .at) (c .before .before .before .before .before .before .loop .left) (c .before .before .before .before .before .before .loop .ends) (c .before .before .before .before .before .before .loop .out) (c .before .before .before .before .before .before .loop .inv) (c .before .before .before .before .put-plain .result) _ (c .before .before .before .before .put-plain .ensures)) .kept)
 
--- src/lib.rt:284:13
 put-fields-stand-requires : (t : ℕ) → put-fields-lts.Need-stand-requires (put-plain-reads.Asked, put-plain-reads.Learnt, put-ends-reads.Asked, put-ends-reads.Learnt, stand-reads.Asked, stand-reads.Learnt, last-group-reads.Asked, last-group-reads.Learnt, open-group-reads.Asked, open-group-reads.Learnt, count-of-reads.Asked, count-of-reads.Learnt, put-value-below t, put-value.Post) (put-fields-at t) put-fields.Post put-fields-Inv-loop put-fields-μ-loop
 put-fields-stand-requires t c κs = search needs
 
--- src/lib.rt:284:13
 put-fields-same-length : (t : ℕ) → put-fields-lts.Need-same-length (put-plain-reads.Asked, put-plain-reads.Learnt, put-ends-reads.Asked, put-ends-reads.Learnt, stand-reads.Asked, stand-reads.Learnt, last-group-reads.Asked, last-group-reads.Learnt, open-group-reads.Asked, open-group-reads.Learnt, count-of-reads.Asked, count-of-reads.Learnt, put-value-below t, put-value.Post) (put-fields-at t) put-fields.Post put-fields-Inv-loop put-fields-μ-loop
 put-fields-same-length t c = c .before .before .before .put-ends .ensures .kept ∙ (laws.walk-plain (c .before .before .before .before .before .before .before .before .before .before .before .before .before .before .args .words .now) (c .before .before .before .before .before .before .before .before .before .before .before .before .before .before .args .pool .now) (c .before .before .before .before .before .before .before .before .before .before .before .before .before .before .args .word) (c .before .before .before .before .before .before .before .before .before .before .before .before .before .before .args .from) (c .before .before .before .before .before .before .before .before .before .before .before .before .before .before .args .start) (c .before .before .before .before .before .before .before .before .before .before .before .before .before .before .args .count) (c .before .before .before .before .before .before .before .before .before .before .before .before .before .before .args .out .now) (c .before .before .before .before .before .before .before .before .before .before .loop .w) (c .before .before .before .before .before .before .before .before .before .before .loop .p) (c .before .before .before .before .before .before .before .before .before .before .loop .at) (c .before .before .before .before .before .before .before .before .before .before .loop .left) (c .before .before .before .before .before .before .before .before .before .before .loop .ends) (c .before .before .before .before .before .before .before .before .before .before .loop .out) (c .before .before .before .before .before .before .before .before .before .before .loop .inv) (c .before .before .before .before .before .before .before .before .put-plain .result) _ (c .before .before .before .before .before .before .before .before .put-plain .ensures)) .kept
 
--- src/lib.rt:284:13
 put-fields-returns : (t : ℕ) → put-fields-lts.Need-returns (put-plain-reads.Asked, put-plain-reads.Learnt, put-ends-reads.Asked, put-ends-reads.Learnt, stand-reads.Asked, stand-reads.Learnt, last-group-reads.Asked, last-group-reads.Learnt, open-group-reads.Asked, open-group-reads.Learnt, count-of-reads.Asked, count-of-reads.Learnt, put-value-below t, put-value.Post) (put-fields-at t) put-fields.Post put-fields-Inv-loop put-fields-μ-loop
 put-fields-returns t c = rw (c .stand .ensures) (laws.walk-end (c .before .before .before .before .before .before .before .before .before .before .before .before .before .before .args .words .now) (c .before .before .before .before .before .before .before .before .before .before .before .before .before .before .args .pool .now) (c .before .before .before .before .before .before .before .before .before .before .before .before .before .before .args .word) (c .before .before .before .before .before .before .before .before .before .before .before .before .before .before .args .from) (c .before .before .before .before .before .before .before .before .before .before .before .before .before .before .args .start) (c .before .before .before .before .before .before .before .before .before .before .before .before .before .before .args .count) (c .before .before .before .before .before .before .before .before .before .before .before .before .before .before .args .out .now) (c .before .before .before .before .before .before .before .before .put-plain .result .word) (c .before .before .before .before .before .before .before .before .put-plain .result .pool) (c .before .before .before .before .before .before .before .before .put-plain .result .at) (c .before .before .before .before .before .before .before .before .put-plain .result .left) (c .before .before .before .before .before .before .before .before .before .before .loop .ends) _ (laws.walk-plain (c .before .before .before .before .before .before .before .before .before .before .before .before .before .before .args .words .now) (c .before .before .before .before .before .before .before .before .before .before .before .before .before .before .args .pool .now) (c .before .before .before .before .before .before .before .before .before .before .before .before .before .before .args .word) (c .before .before .before .before .before .before .before .before .before .before .before .before .before .before .args .from) (c .before .before .before .before .before .before .before .before .before .before .before .before .before .before .args .start) (c .before .before .before .before .before .before .before .before .before .before .before .before .before .before .args .count) (c .before .before .before .before .before .before .before .before .before .before .before .before .before .before .args .out .now) (c .before .before .before .before .before .before .before .before .before .before .loop .w) (c .before .before .before .before .before .before .before .before .before .before .loop .p) (c .before .before .before .before .before .before .before .before .before .before .loop .at) (c .before .before .before .before .before .before .before .before .before .before .loop .left) (c .before .before .before .before .before .before .before .before .before .before .loop .ends) (c .before .before .before .before .before .before .before .before .before .before .loop .out) (c .before .before .before .before .before .before .before .before .before .before .loop .inv) (c .before .before .before .before .before .before .before .before .put-plain .result) _ (c .before .before .before .before .before .before .before .before .put-plain .ensures)) (c .before .before .before .put-ends .result) _ (c .before .before .before .before .before .if1 .taken) (c .before .before .before .put-ends .ensures))
 
--- src/lib.rt:286:12
 put-fields-last-group-requires : (t : ℕ) → put-fields-lts.Need-last-group-requires (put-plain-reads.Asked, put-plain-reads.Learnt, put-ends-reads.Asked, put-ends-reads.Learnt, stand-reads.Asked, stand-reads.Learnt, last-group-reads.Asked, last-group-reads.Learnt, open-group-reads.Asked, open-group-reads.Learnt, count-of-reads.Asked, count-of-reads.Learnt, put-value-below t, put-value.Post) (put-fields-at t) put-fields.Post put-fields-Inv-loop put-fields-μ-loop
 put-fields-last-group-requires t c κs = search needs
 
--- src/lib.rt:287:24
 put-fields-mul-kind : (t : ℕ) → put-fields-lts.Need-mul-kind (put-plain-reads.Asked, put-plain-reads.Learnt, put-ends-reads.Asked, put-ends-reads.Learnt, stand-reads.Asked, stand-reads.Learnt, last-group-reads.Asked, last-group-reads.Learnt, open-group-reads.Asked, open-group-reads.Learnt, count-of-reads.Asked, count-of-reads.Learnt, put-value-below t, put-value.Post) (put-fields-at t) put-fields.Post put-fields-Inv-loop put-fields-μ-loop
 put-fields-mul-kind t c = search needs
 
--- src/lib.rt:287:24
 put-fields-shared-slice-read-kind : (t : ℕ) → put-fields-lts.Need-shared-slice-read-kind (put-plain-reads.Asked, put-plain-reads.Learnt, put-ends-reads.Asked, put-ends-reads.Learnt, stand-reads.Asked, stand-reads.Learnt, last-group-reads.Asked, last-group-reads.Learnt, open-group-reads.Asked, open-group-reads.Learnt, count-of-reads.Asked, count-of-reads.Learnt, put-value-below t, put-value.Post) (put-fields-at t) put-fields.Post put-fields-Inv-loop put-fields-μ-loop
 put-fields-shared-slice-read-kind t c = omega (arith, c .before .before .last-group .ensures (c .before .if2 .taken))
 
--- src/lib.rt:288:29
 put-fields-add-tag : (t : ℕ) → put-fields-lts.Need-add-tag (put-plain-reads.Asked, put-plain-reads.Learnt, put-ends-reads.Asked, put-ends-reads.Learnt, stand-reads.Asked, stand-reads.Learnt, last-group-reads.Asked, last-group-reads.Learnt, open-group-reads.Asked, open-group-reads.Learnt, count-of-reads.Asked, count-of-reads.Learnt, put-value-below t, put-value.Post) (put-fields-at t) put-fields.Post put-fields-Inv-loop put-fields-μ-loop
 put-fields-add-tag t c = omega (arith, c .before .before .last-group .ensures (c .before .if2 .taken))
 
--- src/lib.rt:288:23
 put-fields-mul-tag : (t : ℕ) → put-fields-lts.Need-mul-tag (put-plain-reads.Asked, put-plain-reads.Learnt, put-ends-reads.Asked, put-ends-reads.Learnt, stand-reads.Asked, stand-reads.Learnt, last-group-reads.Asked, last-group-reads.Learnt, open-group-reads.Asked, open-group-reads.Learnt, count-of-reads.Asked, count-of-reads.Learnt, put-value-below t, put-value.Post) (put-fields-at t) put-fields.Post put-fields-Inv-loop put-fields-μ-loop
 put-fields-mul-tag t c = omega (arith, c .before .before .last-group .ensures (c .before .if2 .taken))
 
--- src/lib.rt:288:23
 put-fields-shared-slice-read-tag : (t : ℕ) → put-fields-lts.Need-shared-slice-read-tag (put-plain-reads.Asked, put-plain-reads.Learnt, put-ends-reads.Asked, put-ends-reads.Learnt, stand-reads.Asked, stand-reads.Learnt, last-group-reads.Asked, last-group-reads.Learnt, open-group-reads.Asked, open-group-reads.Learnt, count-of-reads.Asked, count-of-reads.Learnt, put-value-below t, put-value.Post) (put-fields-at t) put-fields.Post put-fields-Inv-loop put-fields-μ-loop
 put-fields-shared-slice-read-tag t c = omega (arith, c .before .before .before .last-group .ensures (c .before .before .if2 .taken))
 
--- src/lib.rt:289:13
 put-fields-open-group-requires : (t : ℕ) → put-fields-lts.Need-open-group-requires (put-plain-reads.Asked, put-plain-reads.Learnt, put-ends-reads.Asked, put-ends-reads.Learnt, stand-reads.Asked, stand-reads.Learnt, last-group-reads.Asked, last-group-reads.Learnt, open-group-reads.Asked, open-group-reads.Learnt, count-of-reads.Asked, count-of-reads.Learnt, put-value-below t, put-value.Post) (put-fields-at t) put-fields.Post put-fields-Inv-loop put-fields-μ-loop
 put-fields-open-group-requires t c κs = omega (arith, (laws.walk-plain (c .before .before .before .before .before .before .before .before .before .before .before .before .before .before .args .words .now) (c .before .before .before .before .before .before .before .before .before .before .before .before .before .before .args .pool .now) (c .before .before .before .before .before .before .before .before .before .before .before .before .before .before .args .word) (c .before .before .before .before .before .before .before .before .before .before .before .before .before .before .args .from) (c .before .before .before .before .before .before .before .before .before .before .before .before .before .before .args .start) (c .before .before .before .before .before .before .before .before .before .before .before .before .before .before .args .count) (c .before .before .before .before .before .before .before .before .before .before .before .before .before .before .args .out .now) (c .before .before .before .before .before .before .before .before .before .before .loop .w) (c .before .before .before .before .before .before .before .before .before .before .loop .p) (c .before .before .before .before .before .before .before .before .before .before .loop .at) (c .before .before .before .before .before .before .before .before .before .before .loop .left) (c .before .before .before .before .before .before .before .before .before .before .loop .ends) (c .before .before .before .before .before .before .before .before .before .before .loop .out) (c .before .before .before .before .before .before .before .before .before .before .loop .inv) (c .before .before .before .before .before .before .before .before .put-plain .result) _ (c .before .before .before .before .before .before .before .before .put-plain .ensures)) .at-in, (laws.walk-plain (c .before .before .before .before .before .before .before .before .before .before .before .before .before .before .args .words .now) (c .before .before .before .before .before .before .before .before .before .before .before .before .before .before .args .pool .now) (c .before .before .before .before .before .before .before .before .before .before .before .before .before .before .args .word) (c .before .before .before .before .before .before .before .before .before .before .before .before .before .before .args .from) (c .before .before .before .before .before .before .before .before .before .before .before .before .before .before .args .start) (c .before .before .before .before .before .before .before .before .before .before .before .before .before .before .args .count) (c .before .before .before .before .before .before .before .before .before .before .before .before .before .before .args .out .now) (c .before .before .before .before .before .before .before .before .before .before .loop .w) (c .before .before .before .before .before .before .before .before .before .before .loop .p) (c .before .before .before .before .before .before .before .before .before .before .loop .at) (c .before .before .before .before .before .before .before .before .before .before .loop .left) (c .before .before .before .before .before .before .before .before .before .before .loop .ends) (c .before .before .before .before .before .before .before .before .before .before .loop .out) (c .before .before .before .before .before .before .before .before .before .before .loop .inv) (c .before .before .before .before .before .before .before .before .put-plain .result) _ (c .before .before .before .before .before .before .before .before .put-plain .ensures)) .kept)
 
--- src/lib.rt:290:13
 put-fields-count-of-requires : (t : ℕ) → put-fields-lts.Need-count-of-requires (put-plain-reads.Asked, put-plain-reads.Learnt, put-ends-reads.Asked, put-ends-reads.Learnt, stand-reads.Asked, stand-reads.Learnt, last-group-reads.Asked, last-group-reads.Learnt, open-group-reads.Asked, open-group-reads.Learnt, count-of-reads.Asked, count-of-reads.Learnt, put-value-below t, put-value.Post) (put-fields-at t) put-fields.Post put-fields-Inv-loop put-fields-μ-loop
 put-fields-count-of-requires t c κs = search needs
 
--- src/lib.rt:291:13
 put-fields-add-w : (t : ℕ) → put-fields-lts.Need-add-w (put-plain-reads.Asked, put-plain-reads.Learnt, put-ends-reads.Asked, put-ends-reads.Learnt, stand-reads.Asked, stand-reads.Learnt, last-group-reads.Asked, last-group-reads.Learnt, open-group-reads.Asked, open-group-reads.Learnt, count-of-reads.Asked, count-of-reads.Learnt, put-value-below t, put-value.Post) (put-fields-at t) put-fields.Post put-fields-Inv-loop put-fields-μ-loop
 put-fields-add-w t c = omega (arith, c .before .before .before .before .before .before .before .before .last-group .ensures (c .before .before .before .before .before .before .before .if2 .taken))
 
--- src/lib.rt:292:13
 put-fields-add-ends : (t : ℕ) → put-fields-lts.Need-add-ends (put-plain-reads.Asked, put-plain-reads.Learnt, put-ends-reads.Asked, put-ends-reads.Learnt, stand-reads.Asked, stand-reads.Learnt, last-group-reads.Asked, last-group-reads.Learnt, open-group-reads.Asked, open-group-reads.Learnt, count-of-reads.Asked, count-of-reads.Learnt, put-value-below t, put-value.Post) (put-fields-at t) put-fields.Post put-fields-Inv-loop put-fields-μ-loop
 put-fields-add-ends t c = omega (arith, (laws.walk-plain (c .before .before .before .before .before .before .before .before .before .before .before .before .before .before .before .before .before .before .args .words .now) (c .before .before .before .before .before .before .before .before .before .before .before .before .before .before .before .before .before .before .args .pool .now) (c .before .before .before .before .before .before .before .before .before .before .before .before .before .before .before .before .before .before .args .word) (c .before .before .before .before .before .before .before .before .before .before .before .before .before .before .before .before .before .before .args .from) (c .before .before .before .before .before .before .before .before .before .before .before .before .before .before .before .before .before .before .args .start) (c .before .before .before .before .before .before .before .before .before .before .before .before .before .before .before .before .before .before .args .count) (c .before .before .before .before .before .before .before .before .before .before .before .before .before .before .before .before .before .before .args .out .now) (c .before .before .before .before .before .before .before .before .before .before .before .before .before .before .loop .w) (c .before .before .before .before .before .before .before .before .before .before .before .before .before .before .loop .p) (c .before .before .before .before .before .before .before .before .before .before .before .before .before .before .loop .at) (c .before .before .before .before .before .before .before .before .before .before .before .before .before .before .loop .left) (c .before .before .before .before .before .before .before .before .before .before .before .before .before .before .loop .ends) (c .before .before .before .before .before .before .before .before .before .before .before .before .before .before .loop .out) (c .before .before .before .before .before .before .before .before .before .before .before .before .before .before .loop .inv) (c .before .before .before .before .before .before .before .before .before .before .before .before .put-plain .result) _ (c .before .before .before .before .before .before .before .before .before .before .before .before .put-plain .ensures)) .on, (laws.walk-plain (c .before .before .before .before .before .before .before .before .before .before .before .before .before .before .before .before .before .before .args .words .now) (c .before .before .before .before .before .before .before .before .before .before .before .before .before .before .before .before .before .before .args .pool .now) (c .before .before .before .before .before .before .before .before .before .before .before .before .before .before .before .before .before .before .args .word) (c .before .before .before .before .before .before .before .before .before .before .before .before .before .before .before .before .before .before .args .from) (c .before .before .before .before .before .before .before .before .before .before .before .before .before .before .before .before .before .before .args .start) (c .before .before .before .before .before .before .before .before .before .before .before .before .before .before .before .before .before .before .args .count) (c .before .before .before .before .before .before .before .before .before .before .before .before .before .before .before .before .before .before .args .out .now) (c .before .before .before .before .before .before .before .before .before .before .before .before .before .before .loop .w) (c .before .before .before .before .before .before .before .before .before .before .before .before .before .before .loop .p) (c .before .before .before .before .before .before .before .before .before .before .before .before .before .before .loop .at) (c .before .before .before .before .before .before .before .before .before .before .before .before .before .before .loop .left) (c .before .before .before .before .before .before .before .before .before .before .before .before .before .before .loop .ends) (c .before .before .before .before .before .before .before .before .before .before .before .before .before .before .loop .out) (c .before .before .before .before .before .before .before .before .before .before .before .before .before .before .loop .inv) (c .before .before .before .before .before .before .before .before .before .before .before .before .put-plain .result) _ (c .before .before .before .before .before .before .before .before .before .before .before .before .put-plain .ensures)) .word-in)
 
--- src/lib.rt:276:5
 put-fields-loop-less : (t : ℕ) → put-fields-lts.Need-loop-less (put-plain-reads.Asked, put-plain-reads.Learnt, put-ends-reads.Asked, put-ends-reads.Learnt, stand-reads.Asked, stand-reads.Learnt, last-group-reads.Asked, last-group-reads.Learnt, open-group-reads.Asked, open-group-reads.Learnt, count-of-reads.Asked, count-of-reads.Learnt, put-value-below t, put-value.Post) (put-fields-at t) put-fields.Post put-fields-Inv-loop put-fields-μ-loop
 put-fields-loop-less t c = omega (arith, c .before .before .before .before .before .before .before .before .last-group .ensures (c .before .before .before .before .before .before .before .if2 .taken), c .before .before .before .before .before .before .before .before .before .before .before .before .put-plain .ensures .onward .on, c .before .before .before .before .before .before .before .before .before .before .before .before .put-plain .ensures .fewer, c .count-of .ensures, laws.count-small (getD (c .before .before .before .before .before .before .before .before .before .before .before .before .before .before .before .before .before .before .args .words .now) (c .before .before .before .before .before .before .before .before .before .before .before .before .put-plain .result .word) 0) (getD (c .before .before .before .before .before .before .before .before .before .before .before .before .before .before .before .before .before .before .args .words .now) (c .before .before .before .before .before .before .before .before .before .before .before .before .put-plain .result .word + 1) 0), c .before .before .before .before .before .shared-slice-known4 .given (c .before .before .before .before .before .before .before .before .before .before .before .before .put-plain .result .word + 1))
 
--- src/lib.rt:276:5
 put-fields-loop-again : (t : ℕ) → put-fields-lts.Need-loop-again (put-plain-reads.Asked, put-plain-reads.Learnt, put-ends-reads.Asked, put-ends-reads.Learnt, stand-reads.Asked, stand-reads.Learnt, last-group-reads.Asked, last-group-reads.Learnt, open-group-reads.Asked, open-group-reads.Learnt, count-of-reads.Asked, count-of-reads.Learnt, put-value-below t, put-value.Post) (put-fields-at t) put-fields.Post put-fields-Inv-loop put-fields-μ-loop
 put-fields-loop-again t c = rw (c .count-of .ensures) (laws.walk-into (c .before .before .before .before .before .before .before .before .before .before .before .before .before .before .before .before .before .before .args .words .now) (c .before .before .before .before .before .before .before .before .before .before .before .before .before .before .before .before .before .before .args .pool .now) (c .before .before .before .before .before .before .before .before .before .before .before .before .before .before .before .before .before .before .args .word) (c .before .before .before .before .before .before .before .before .before .before .before .before .before .before .before .before .before .before .args .from) (c .before .before .before .before .before .before .before .before .before .before .before .before .before .before .before .before .before .before .args .start) (c .before .before .before .before .before .before .before .before .before .before .before .before .before .before .before .before .before .before .args .count) (c .before .before .before .before .before .before .before .before .before .before .before .before .before .before .before .before .before .before .args .out .now) (c .before .before .before .before .before .before .before .before .before .before .before .before .put-plain .result .word) (c .before .before .before .before .before .before .before .before .before .before .before .before .put-plain .result .pool) (c .before .before .before .before .before .before .before .before .before .before .before .before .put-plain .result .at) (c .before .before .before .before .before .before .before .before .before .before .before .before .put-plain .result .left) (c .before .before .before .before .before .before .before .before .before .before .before .before .before .before .loop .ends) _ (laws.walk-plain (c .before .before .before .before .before .before .before .before .before .before .before .before .before .before .before .before .before .before .args .words .now) (c .before .before .before .before .before .before .before .before .before .before .before .before .before .before .before .before .before .before .args .pool .now) (c .before .before .before .before .before .before .before .before .before .before .before .before .before .before .before .before .before .before .args .word) (c .before .before .before .before .before .before .before .before .before .before .before .before .before .before .before .before .before .before .args .from) (c .before .before .before .before .before .before .before .before .before .before .before .before .before .before .before .before .before .before .args .start) (c .before .before .before .before .before .before .before .before .before .before .before .before .before .before .before .before .before .before .args .count) (c .before .before .before .before .before .before .before .before .before .before .before .before .before .before .before .before .before .before .args .out .now) (c .before .before .before .before .before .before .before .before .before .before .before .before .before .before .loop .w) (c .before .before .before .before .before .before .before .before .before .before .before .before .before .before .loop .p) (c .before .before .before .before .before .before .before .before .before .before .before .before .before .before .loop .at) (c .before .before .before .before .before .before .before .before .before .before .before .before .before .before .loop .left) (c .before .before .before .before .before .before .before .before .before .before .before .before .before .before .loop .ends) (c .before .before .before .before .before .before .before .before .before .before .before .before .before .before .loop .out) (c .before .before .before .before .before .before .before .before .before .before .before .before .before .before .loop .inv) (c .before .before .before .before .before .before .before .before .before .before .before .before .put-plain .result) _ (c .before .before .before .before .before .before .before .before .before .before .before .before .put-plain .ensures)) _ _ (c .before .before .before .open-group .result) _ (c .before .before .before .before .before .before .before .before .last-group .ensures (c .before .before .before .before .before .before .before .if2 .taken) .0) (c .before .before .before .before .before .before .before .before .last-group .ensures (c .before .before .before .before .before .before .before .if2 .taken) .1) (omega (arith, c .before .before .before .before .before .before .before .before .last-group .ensures (c .before .before .before .before .before .before .before .if2 .taken) .2)) refl refl (c .before .before .before .open-group .ensures))
 
--- src/lib.rt:294:17
 put-fields-put-value-requires : (t : ℕ) → put-fields-lts.Need-put-value-requires (put-plain-reads.Asked, put-plain-reads.Learnt, put-ends-reads.Asked, put-ends-reads.Learnt, stand-reads.Asked, stand-reads.Learnt, last-group-reads.Asked, last-group-reads.Learnt, open-group-reads.Asked, open-group-reads.Learnt, count-of-reads.Asked, count-of-reads.Learnt, put-value-below t, put-value.Post) (put-fields-at t) put-fields.Post put-fields-Inv-loop put-fields-μ-loop
 put-fields-put-value-requires t c κs = (omega (arith, c .before .before .before .before .before .before .before .before .before .before .before .before .pre .0, (laws.walk-plain (c .before .before .before .before .before .before .before .before .before .before .before .before .args .words .now) (c .before .before .before .before .before .before .before .before .before .before .before .before .args .pool .now) (c .before .before .before .before .before .before .before .before .before .before .before .before .args .word) (c .before .before .before .before .before .before .before .before .before .before .before .before .args .from) (c .before .before .before .before .before .before .before .before .before .before .before .before .args .start) (c .before .before .before .before .before .before .before .before .before .before .before .before .args .count) (c .before .before .before .before .before .before .before .before .before .before .before .before .args .out .now) (c .before .before .before .before .before .before .before .before .loop .w) (c .before .before .before .before .before .before .before .before .loop .p) (c .before .before .before .before .before .before .before .before .loop .at) (c .before .before .before .before .before .before .before .before .loop .left) (c .before .before .before .before .before .before .before .before .loop .ends) (c .before .before .before .before .before .before .before .before .loop .out) (c .before .before .before .before .before .before .before .before .loop .inv) (c .before .before .before .before .before .before .put-plain .result) _ (c .before .before .before .before .before .before .put-plain .ensures)) .on, (laws.walk-plain (c .before .before .before .before .before .before .before .before .before .before .before .before .args .words .now) (c .before .before .before .before .before .before .before .before .before .before .before .before .args .pool .now) (c .before .before .before .before .before .before .before .before .before .before .before .before .args .word) (c .before .before .before .before .before .before .before .before .before .before .before .before .args .from) (c .before .before .before .before .before .before .before .before .before .before .before .before .args .start) (c .before .before .before .before .before .before .before .before .before .before .before .before .args .count) (c .before .before .before .before .before .before .before .before .before .before .before .before .args .out .now) (c .before .before .before .before .before .before .before .before .loop .w) (c .before .before .before .before .before .before .before .before .loop .p) (c .before .before .before .before .before .before .before .before .loop .at) (c .before .before .before .before .before .before .before .before .loop .left) (c .before .before .before .before .before .before .before .before .loop .ends) (c .before .before .before .before .before .before .before .before .loop .out) (c .before .before .before .before .before .before .before .before .loop .inv) (c .before .before .before .before .before .before .put-plain .result) _ (c .before .before .before .before .before .before .put-plain .ensures)) .word-in), record { word-in = (laws.walk-plain (c .before .before .before .before .before .before .before .before .before .before .before .before .args .words .now) (c .before .before .before .before .before .before .before .before .before .before .before .before .args .pool .now) (c .before .before .before .before .before .before .before .before .before .before .before .before .args .word) (c .before .before .before .before .before .before .before .before .before .before .before .before .args .from) (c .before .before .before .before .before .before .before .before .before .before .before .before .args .start) (c .before .before .before .before .before .before .before .before .before .before .before .before .args .count) (c .before .before .before .before .before .before .before .before .before .before .before .before .args .out .now) (c .before .before .before .before .before .before .before .before .loop .w) (c .before .before .before .before .before .before .before .before .loop .p) (c .before .before .before .before .before .before .before .before .loop .at) (c .before .before .before .before .before .before .before .before .loop .left) (c .before .before .before .before .before .before .before .before .loop .ends) (c .before .before .before .before .before .before .before .before .loop .out) (c .before .before .before .before .before .before .before .before .loop .inv) (c .before .before .before .before .before .before .put-plain .result) _ (c .before .before .before .before .before .before .put-plain .ensures)) .word-in; pool-in = (laws.walk-plain (c .before .before .before .before .before .before .before .before .before .before .before .before .args .words .now) (c .before .before .before .before .before .before .before .before .before .before .before .before .args .pool .now) (c .before .before .before .before .before .before .before .before .before .before .before .before .args .word) (c .before .before .before .before .before .before .before .before .before .before .before .before .args .from) (c .before .before .before .before .before .before .before .before .before .before .before .before .args .start) (c .before .before .before .before .before .before .before .before .before .before .before .before .args .count) (c .before .before .before .before .before .before .before .before .before .before .before .before .args .out .now) (c .before .before .before .before .before .before .before .before .loop .w) (c .before .before .before .before .before .before .before .before .loop .p) (c .before .before .before .before .before .before .before .before .loop .at) (c .before .before .before .before .before .before .before .before .loop .left) (c .before .before .before .before .before .before .before .before .loop .ends) (c .before .before .before .before .before .before .before .before .loop .out) (c .before .before .before .before .before .before .before .before .loop .inv) (c .before .before .before .before .before .before .put-plain .result) _ (c .before .before .before .before .before .before .put-plain .ensures)) .pool-in; at-in = omega (arith, (laws.walk-plain (c .before .before .before .before .before .before .before .before .before .before .before .before .args .words .now) (c .before .before .before .before .before .before .before .before .before .before .before .before .args .pool .now) (c .before .before .before .before .before .before .before .before .before .before .before .before .args .word) (c .before .before .before .before .before .before .before .before .before .before .before .before .args .from) (c .before .before .before .before .before .before .before .before .before .before .before .before .args .start) (c .before .before .before .before .before .before .before .before .before .before .before .before .args .count) (c .before .before .before .before .before .before .before .before .before .before .before .before .args .out .now) (c .before .before .before .before .before .before .before .before .loop .w) (c .before .before .before .before .before .before .before .before .loop .p) (c .before .before .before .before .before .before .before .before .loop .at) (c .before .before .before .before .before .before .before .before .loop .left) (c .before .before .before .before .before .before .before .before .loop .ends) (c .before .before .before .before .before .before .before .before .loop .out) (c .before .before .before .before .before .before .before .before .loop .inv) (c .before .before .before .before .before .before .put-plain .result) _ (c .before .before .before .before .before .before .put-plain .ensures)) .at-in, (laws.walk-plain (c .before .before .before .before .before .before .before .before .before .before .before .before .args .words .now) (c .before .before .before .before .before .before .before .before .before .before .before .before .args .pool .now) (c .before .before .before .before .before .before .before .before .before .before .before .before .args .word) (c .before .before .before .before .before .before .before .before .before .before .before .before .args .from) (c .before .before .before .before .before .before .before .before .before .before .before .before .args .start) (c .before .before .before .before .before .before .before .before .before .before .before .before .args .count) (c .before .before .before .before .before .before .before .before .before .before .before .before .args .out .now) (c .before .before .before .before .before .before .before .before .loop .w) (c .before .before .before .before .before .before .before .before .loop .p) (c .before .before .before .before .before .before .before .before .loop .at) (c .before .before .before .before .before .before .before .before .loop .left) (c .before .before .before .before .before .before .before .before .loop .ends) (c .before .before .before .before .before .before .before .before .loop .out) (c .before .before .before .before .before .before .before .before .loop .inv) (c .before .before .before .before .before .before .put-plain .result) _ (c .before .before .before .before .before .before .put-plain .ensures)) .kept) })
 
--- src/lib.rt:298:13
 put-fields-sub-left : (t : ℕ) → put-fields-lts.Need-sub-left (put-plain-reads.Asked, put-plain-reads.Learnt, put-ends-reads.Asked, put-ends-reads.Learnt, stand-reads.Asked, stand-reads.Learnt, last-group-reads.Asked, last-group-reads.Learnt, open-group-reads.Asked, open-group-reads.Learnt, count-of-reads.Asked, count-of-reads.Learnt, put-value-below t, put-value.Post) (put-fields-at t) put-fields.Post put-fields-Inv-loop put-fields-μ-loop
 put-fields-sub-left t c = omega (arith, c .before .before .before .before .before .before .if1 .left)
 
--- src/lib.rt:276:5
 put-fields-loop-less-2 : (t : ℕ) → put-fields-lts.Need-loop-less-2 (put-plain-reads.Asked, put-plain-reads.Learnt, put-ends-reads.Asked, put-ends-reads.Learnt, stand-reads.Asked, stand-reads.Learnt, last-group-reads.Asked, last-group-reads.Learnt, open-group-reads.Asked, open-group-reads.Learnt, count-of-reads.Asked, count-of-reads.Learnt, put-value-below t, put-value.Post) (put-fields-at t) put-fields.Post put-fields-Inv-loop put-fields-μ-loop
 put-fields-loop-less-2 t c = omega (arith, c .before .before .before .before .before .before .if1 .left, c .before .before .put-value .ensures .onward .on, c .before .before .before .before .before .before .before .before .before .put-plain .ensures .onward .on, c .before .before .before .before .before .before .before .before .before .put-plain .ensures .fewer)
 
--- src/lib.rt:276:5
 put-fields-loop-again-2 : (t : ℕ) → put-fields-lts.Need-loop-again-2 (put-plain-reads.Asked, put-plain-reads.Learnt, put-ends-reads.Asked, put-ends-reads.Learnt, stand-reads.Asked, stand-reads.Learnt, last-group-reads.Asked, last-group-reads.Learnt, open-group-reads.Asked, open-group-reads.Learnt, count-of-reads.Asked, count-of-reads.Learnt, put-value-below t, put-value.Post) (put-fields-at t) put-fields.Post put-fields-Inv-loop put-fields-μ-loop
 put-fields-loop-again-2 t c = laws.walk-value (c .before .before .before .before .before .before .before .before .before .before .before .before .before .before .before .args .words .now) (c .before .before .before .before .before .before .before .before .before .before .before .before .before .before .before .args .pool .now) (c .before .before .before .before .before .before .before .before .before .before .before .before .before .before .before .args .word) (c .before .before .before .before .before .before .before .before .before .before .before .before .before .before .before .args .from) (c .before .before .before .before .before .before .before .before .before .before .before .before .before .before .before .args .start) (c .before .before .before .before .before .before .before .before .before .before .before .before .before .before .before .args .count) (c .before .before .before .before .before .before .before .before .before .before .before .before .before .before .before .args .out .now) (c .before .before .before .before .before .before .before .before .before .put-plain .result .word) (c .before .before .before .before .before .before .before .before .before .put-plain .result .pool) (c .before .before .before .before .before .before .before .before .before .put-plain .result .at) (c .before .before .before .before .before .before .before .before .before .put-plain .result .left) (c .before .before .before .before .before .before .before .before .before .before .before .loop .ends) _ (laws.walk-plain (c .before .before .before .before .before .before .before .before .before .before .before .before .before .before .before .args .words .now) (c .before .before .before .before .before .before .before .before .before .before .before .before .before .before .before .args .pool .now) (c .before .before .before .before .before .before .before .before .before .before .before .before .before .before .before .args .word) (c .before .before .before .before .before .before .before .before .before .before .before .before .before .before .before .args .from) (c .before .before .before .before .before .before .before .before .before .before .before .before .before .before .before .args .start) (c .before .before .before .before .before .before .before .before .before .before .before .before .before .before .before .args .count) (c .before .before .before .before .before .before .before .before .before .before .before .before .before .before .before .args .out .now) (c .before .before .before .before .before .before .before .before .before .before .before .loop .w) (c .before .before .before .before .before .before .before .before .before .before .before .loop .p) (c .before .before .before .before .before .before .before .before .before .before .before .loop .at) (c .before .before .before .before .before .before .before .before .before .before .before .loop .left) (c .before .before .before .before .before .before .before .before .before .before .before .loop .ends) (c .before .before .before .before .before .before .before .before .before .before .before .loop .out) (c .before .before .before .before .before .before .before .before .before .before .before .loop .inv) (c .before .before .before .before .before .before .before .before .before .put-plain .result) _ (c .before .before .before .before .before .before .before .before .before .put-plain .ensures)) (c .before .before .put-value .result) _ (c .before .before .before .before .before .before .if1 .left) (c .before .before .put-value .ensures)
 
--- src/lib.rt:239:8
 put-value-sub-if1 : (t : ℕ) → put-value-lts.Need-sub-if1 (stand-reads.Asked, stand-reads.Learnt, run-of-reads.Asked, run-of-reads.Learnt, put-scalar-reads.Asked, put-scalar-reads.Learnt, open-group-reads.Asked, open-group-reads.Learnt, count-of-reads.Asked, count-of-reads.Learnt, put-fields-below t, put-fields.Post, put-byte-reads.Asked, put-byte-reads.Learnt) (put-value-at t) put-value.Post
 put-value-sub-if1 t c = omega (arith, c .before .before .before .pre .1 .word-in)
 
--- src/lib.rt:240:9
 put-value-stand-requires : (t : ℕ) → put-value-lts.Need-stand-requires (stand-reads.Asked, stand-reads.Learnt, run-of-reads.Asked, run-of-reads.Learnt, put-scalar-reads.Asked, put-scalar-reads.Learnt, open-group-reads.Asked, open-group-reads.Learnt, count-of-reads.Asked, count-of-reads.Learnt, put-fields-below t, put-fields.Post, put-byte-reads.Asked, put-byte-reads.Learnt) (put-value-at t) put-value.Post
 put-value-stand-requires t c κs = search needs
 
--- src/lib.rt:240:9
 put-value-returns : (t : ℕ) → put-value-lts.Need-returns (stand-reads.Asked, stand-reads.Learnt, run-of-reads.Asked, run-of-reads.Learnt, put-scalar-reads.Asked, put-scalar-reads.Learnt, open-group-reads.Asked, open-group-reads.Learnt, count-of-reads.Asked, count-of-reads.Learnt, put-fields-below t, put-fields.Post, put-byte-reads.Asked, put-byte-reads.Learnt) (put-value-at t) put-value.Post
 put-value-returns t c = rw (c .stand .ensures) (record { onward = record { on = omega arith; word-in = c .before .before .before .before .before .pre .1 .word-in; pool-in = c .before .before .before .before .before .pre .1 .pool-in; at-in = c .before .before .before .before .before .pre .1 .at-in; kept = refl }; says = laws.short (c .before .before .before .before .before .args .words .now) (c .before .before .before .before .before .args .pool .now) (c .before .before .before .before .before .args .word) (c .before .before .before .before .before .args .from) (c .before .before .before .before .before .args .at) (c .before .before .before .before .before .args .out .now) _ _ (c .before .if1 .taken) })
 
--- src/lib.rt:242:16
 put-value-mul-kind : (t : ℕ) → put-value-lts.Need-mul-kind (stand-reads.Asked, stand-reads.Learnt, run-of-reads.Asked, run-of-reads.Learnt, put-scalar-reads.Asked, put-scalar-reads.Learnt, open-group-reads.Asked, open-group-reads.Learnt, count-of-reads.Asked, count-of-reads.Learnt, put-fields-below t, put-fields.Post, put-byte-reads.Asked, put-byte-reads.Learnt) (put-value-at t) put-value.Post
 put-value-mul-kind t c = search needs
 
--- src/lib.rt:242:16
 put-value-shared-slice-read-kind : (t : ℕ) → put-value-lts.Need-shared-slice-read-kind (stand-reads.Asked, stand-reads.Learnt, run-of-reads.Asked, run-of-reads.Learnt, put-scalar-reads.Asked, put-scalar-reads.Learnt, open-group-reads.Asked, open-group-reads.Learnt, count-of-reads.Asked, count-of-reads.Learnt, put-fields-below t, put-fields.Post, put-byte-reads.Asked, put-byte-reads.Learnt) (put-value-at t) put-value.Post
 put-value-shared-slice-read-kind t c = search needs
 
--- src/lib.rt:243:19
 put-value-add-x : (t : ℕ) → put-value-lts.Need-add-x (stand-reads.Asked, stand-reads.Learnt, run-of-reads.Asked, run-of-reads.Learnt, put-scalar-reads.Asked, put-scalar-reads.Learnt, open-group-reads.Asked, open-group-reads.Learnt, count-of-reads.Asked, count-of-reads.Learnt, put-fields-below t, put-fields.Post, put-byte-reads.Asked, put-byte-reads.Learnt) (put-value-at t) put-value.Post
 put-value-add-x t c = search needs
 
--- src/lib.rt:243:13
 put-value-mul-x : (t : ℕ) → put-value-lts.Need-mul-x (stand-reads.Asked, stand-reads.Learnt, run-of-reads.Asked, run-of-reads.Learnt, put-scalar-reads.Asked, put-scalar-reads.Learnt, open-group-reads.Asked, open-group-reads.Learnt, count-of-reads.Asked, count-of-reads.Learnt, put-fields-below t, put-fields.Post, put-byte-reads.Asked, put-byte-reads.Learnt) (put-value-at t) put-value.Post
 put-value-mul-x t c = search needs
 
--- src/lib.rt:243:13
 put-value-shared-slice-read-x : (t : ℕ) → put-value-lts.Need-shared-slice-read-x (stand-reads.Asked, stand-reads.Learnt, run-of-reads.Asked, run-of-reads.Learnt, put-scalar-reads.Asked, put-scalar-reads.Learnt, open-group-reads.Asked, open-group-reads.Learnt, count-of-reads.Asked, count-of-reads.Learnt, put-fields-below t, put-fields.Post, put-byte-reads.Asked, put-byte-reads.Learnt) (put-value-at t) put-value.Post
 put-value-shared-slice-read-x t c = search needs
 
--- src/lib.rt:245:13
 put-value-run-of-requires : (t : ℕ) → put-value-lts.Need-run-of-requires (stand-reads.Asked, stand-reads.Learnt, run-of-reads.Asked, run-of-reads.Learnt, put-scalar-reads.Asked, put-scalar-reads.Learnt, open-group-reads.Asked, open-group-reads.Learnt, count-of-reads.Asked, count-of-reads.Learnt, put-fields-below t, put-fields.Post, put-byte-reads.Asked, put-byte-reads.Learnt) (put-value-at t) put-value.Post
 put-value-run-of-requires t c κs = search needs
 
--- src/lib.rt:246:12
 put-value-sub-if3 : (t : ℕ) → put-value-lts.Need-sub-if3 (stand-reads.Asked, stand-reads.Learnt, run-of-reads.Asked, run-of-reads.Learnt, put-scalar-reads.Asked, put-scalar-reads.Learnt, open-group-reads.Asked, open-group-reads.Learnt, count-of-reads.Asked, count-of-reads.Learnt, put-fields-below t, put-fields.Post, put-byte-reads.Asked, put-byte-reads.Learnt) (put-value-at t) put-value.Post
 put-value-sub-if3 t c = omega (arith, c .before .before .before .before .before .before .before .before .pre .1 .pool-in)
 
--- src/lib.rt:247:13
 put-value-stand-requires-2 : (t : ℕ) → put-value-lts.Need-stand-requires-2 (stand-reads.Asked, stand-reads.Learnt, run-of-reads.Asked, run-of-reads.Learnt, put-scalar-reads.Asked, put-scalar-reads.Learnt, open-group-reads.Asked, open-group-reads.Learnt, count-of-reads.Asked, count-of-reads.Learnt, put-fields-below t, put-fields.Post, put-byte-reads.Asked, put-byte-reads.Learnt) (put-value-at t) put-value.Post
 put-value-stand-requires-2 t c κs = search needs
 
--- src/lib.rt:247:13
 put-value-returns-2 : (t : ℕ) → put-value-lts.Need-returns-2 (stand-reads.Asked, stand-reads.Learnt, run-of-reads.Asked, run-of-reads.Learnt, put-scalar-reads.Asked, put-scalar-reads.Learnt, open-group-reads.Asked, open-group-reads.Learnt, count-of-reads.Asked, count-of-reads.Learnt, put-fields-below t, put-fields.Post, put-byte-reads.Asked, put-byte-reads.Learnt) (put-value-at t) put-value.Post
 put-value-returns-2 t c = rw (c .stand2 .ensures) (record { onward = record { on = omega arith; word-in = c .before .before .before .before .before .before .before .before .before .before .pre .1 .word-in; pool-in = c .before .before .before .before .before .before .before .before .before .before .pre .1 .pool-in; at-in = c .before .before .before .before .before .before .before .before .before .before .pre .1 .at-in; kept = refl }; says = laws.too-long (c .before .before .before .before .before .before .before .before .before .before .args .words .now) (c .before .before .before .before .before .before .before .before .before .before .args .pool .now) (c .before .before .before .before .before .before .before .before .before .before .args .word) (c .before .before .before .before .before .before .before .before .before .before .args .from) (c .before .before .before .before .before .before .before .before .before .before .args .at) (c .before .before .before .before .before .before .before .before .before .before .args .out .now) _ _ _ _ refl refl (c .before .before .before .if2 .taken) (omega (arith, c .before .before .run-of .ensures, c .before .if3 .taken)) })
 
--- src/lib.rt:249:60
 put-value-add-put-scalar : (t : ℕ) → put-value-lts.Need-add-put-scalar (stand-reads.Asked, stand-reads.Learnt, run-of-reads.Asked, run-of-reads.Learnt, put-scalar-reads.Asked, put-scalar-reads.Learnt, open-group-reads.Asked, open-group-reads.Learnt, count-of-reads.Asked, count-of-reads.Learnt, put-fields-below t, put-fields.Post, put-byte-reads.Asked, put-byte-reads.Learnt) (put-value-at t) put-value.Post
 put-value-add-put-scalar t c = search needs
 
--- src/lib.rt:249:13
 put-value-put-scalar-requires : (t : ℕ) → put-value-lts.Need-put-scalar-requires (stand-reads.Asked, stand-reads.Learnt, run-of-reads.Asked, run-of-reads.Learnt, put-scalar-reads.Asked, put-scalar-reads.Learnt, open-group-reads.Asked, open-group-reads.Learnt, count-of-reads.Asked, count-of-reads.Learnt, put-fields-below t, put-fields.Post, put-byte-reads.Asked, put-byte-reads.Learnt) (put-value-at t) put-value.Post
 put-value-put-scalar-requires t c κs = (omega (arith, c .before .before .before .before .before .before .before .before .before .before .pre .1 .at-in), omega arith, omega (arith, c .before .before .before .before .before .before .before .before .before .before .pre .1 .pool-in))
 
--- src/lib.rt:250:22
 put-value-add-stand : (t : ℕ) → put-value-lts.Need-add-stand (stand-reads.Asked, stand-reads.Learnt, run-of-reads.Asked, run-of-reads.Learnt, put-scalar-reads.Asked, put-scalar-reads.Learnt, open-group-reads.Asked, open-group-reads.Learnt, count-of-reads.Asked, count-of-reads.Learnt, put-fields-below t, put-fields.Post, put-byte-reads.Asked, put-byte-reads.Learnt) (put-value-at t) put-value.Post
 put-value-add-stand t c = search needs
 
--- src/lib.rt:250:32
 put-value-add-stand-2 : (t : ℕ) → put-value-lts.Need-add-stand-2 (stand-reads.Asked, stand-reads.Learnt, run-of-reads.Asked, run-of-reads.Learnt, put-scalar-reads.Asked, put-scalar-reads.Learnt, open-group-reads.Asked, open-group-reads.Learnt, count-of-reads.Asked, count-of-reads.Learnt, put-fields-below t, put-fields.Post, put-byte-reads.Asked, put-byte-reads.Learnt) (put-value-at t) put-value.Post
 put-value-add-stand-2 t c = search needs
 
--- src/lib.rt:250:9
 put-value-stand-requires-3 : (t : ℕ) → put-value-lts.Need-stand-requires-3 (stand-reads.Asked, stand-reads.Learnt, run-of-reads.Asked, run-of-reads.Learnt, put-scalar-reads.Asked, put-scalar-reads.Learnt, open-group-reads.Asked, open-group-reads.Learnt, count-of-reads.Asked, count-of-reads.Learnt, put-fields-below t, put-fields.Post, put-byte-reads.Asked, put-byte-reads.Learnt) (put-value-at t) put-value.Post
 put-value-stand-requires-3 t c κs = search needs
 
--- src/lib.rt:250:9
 put-value-same-length : (t : ℕ) → put-value-lts.Need-same-length (stand-reads.Asked, stand-reads.Learnt, run-of-reads.Asked, run-of-reads.Learnt, put-scalar-reads.Asked, put-scalar-reads.Learnt, open-group-reads.Asked, open-group-reads.Learnt, count-of-reads.Asked, count-of-reads.Learnt, put-fields-below t, put-fields.Post, put-byte-reads.Asked, put-byte-reads.Learnt) (put-value-at t) put-value.Post
 put-value-same-length t c = c .before .before .before .put-scalar .ensures .kept
 
--- src/lib.rt:250:9
 put-value-returns-3 : (t : ℕ) → put-value-lts.Need-returns-3 (stand-reads.Asked, stand-reads.Learnt, run-of-reads.Asked, run-of-reads.Learnt, put-scalar-reads.Asked, put-scalar-reads.Learnt, open-group-reads.Asked, open-group-reads.Learnt, count-of-reads.Asked, count-of-reads.Learnt, put-fields-below t, put-fields.Post, put-byte-reads.Asked, put-byte-reads.Learnt) (put-value-at t) put-value.Post
 put-value-returns-3 t c = rw (c .stand3 .ensures) (record { onward = record { on = omega arith; word-in = omega arith; pool-in = omega (arith, c .before .before .before .before .before .before .before .before .before .before .before .before .before .before .pre .1 .pool-in, c .before .before .before .before .before .if3 .left); at-in = c .before .before .before .put-scalar .ensures .inside; kept = c .before .before .before .put-scalar .ensures .kept }; says = laws.a-plain (c .before .before .before .before .before .before .before .before .before .before .before .before .before .before .args .words .now) (c .before .before .before .before .before .before .before .before .before .before .before .before .before .before .args .pool .now) (c .before .before .before .before .before .before .before .before .before .before .before .before .before .before .args .word) (c .before .before .before .before .before .before .before .before .before .before .before .before .before .before .args .from) (c .before .before .before .before .before .before .before .before .before .before .before .before .before .before .args .at) (c .before .before .before .before .before .before .before .before .before .before .before .before .before .before .args .out .now) _ _ _ _ refl refl (c .before .before .before .before .before .before .before .if2 .taken) (c .before .before .before .before .before .before .run-of .result) (c .before .before .before .before .before .before .run-of .ensures) (c .before .before .before .put-scalar .ensures) refl refl })
 
--- src/lib.rt:252:9
 put-value-open-group-requires : (t : ℕ) → put-value-lts.Need-open-group-requires (stand-reads.Asked, stand-reads.Learnt, run-of-reads.Asked, run-of-reads.Learnt, put-scalar-reads.Asked, put-scalar-reads.Learnt, open-group-reads.Asked, open-group-reads.Learnt, count-of-reads.Asked, count-of-reads.Learnt, put-fields-below t, put-fields.Post, put-byte-reads.Asked, put-byte-reads.Learnt) (put-value-at t) put-value.Post
 put-value-open-group-requires t c κs = c .before .before .before .before .before .before .before .before .pre .1 .at-in
 
--- src/lib.rt:253:42
 put-value-add-put-fields : (t : ℕ) → put-value-lts.Need-add-put-fields (stand-reads.Asked, stand-reads.Learnt, run-of-reads.Asked, run-of-reads.Learnt, put-scalar-reads.Asked, put-scalar-reads.Learnt, open-group-reads.Asked, open-group-reads.Learnt, count-of-reads.Asked, count-of-reads.Learnt, put-fields-below t, put-fields.Post, put-byte-reads.Asked, put-byte-reads.Learnt) (put-value-at t) put-value.Post
 put-value-add-put-fields t c = search needs
 
--- src/lib.rt:253:65
 put-value-count-of-requires : (t : ℕ) → put-value-lts.Need-count-of-requires (stand-reads.Asked, stand-reads.Learnt, run-of-reads.Asked, run-of-reads.Learnt, put-scalar-reads.Asked, put-scalar-reads.Learnt, open-group-reads.Asked, open-group-reads.Learnt, count-of-reads.Asked, count-of-reads.Learnt, put-fields-below t, put-fields.Post, put-byte-reads.Asked, put-byte-reads.Learnt) (put-value-at t) put-value.Post
 put-value-count-of-requires t c κs = search needs
 
--- src/lib.rt:253:9
 put-value-put-fields-requires : (t : ℕ) → put-value-lts.Need-put-fields-requires (stand-reads.Asked, stand-reads.Learnt, run-of-reads.Asked, run-of-reads.Learnt, put-scalar-reads.Asked, put-scalar-reads.Learnt, open-group-reads.Asked, open-group-reads.Learnt, count-of-reads.Asked, count-of-reads.Learnt, put-fields-below t, put-fields.Post, put-byte-reads.Asked, put-byte-reads.Learnt) (put-value-at t) put-value.Post
 put-value-put-fields-requires t c κs = (omega (arith, c .before .before .before .before .before .before .before .before .before .before .before .before .before .pre .0), record { word-in = omega arith; pool-in = c .before .before .before .before .before .before .before .before .before .before .before .before .before .pre .1 .pool-in; at-in = omega (arith, c .before .before .before .before .open-group .ensures .inside, c .before .before .before .before .open-group .ensures .kept) })
 
--- src/lib.rt:254:9
 put-value-put-byte-requires : (t : ℕ) → put-value-lts.Need-put-byte-requires (stand-reads.Asked, stand-reads.Learnt, run-of-reads.Asked, run-of-reads.Learnt, put-scalar-reads.Asked, put-scalar-reads.Learnt, open-group-reads.Asked, open-group-reads.Learnt, count-of-reads.Asked, count-of-reads.Learnt, put-fields-below t, put-fields.Post, put-byte-reads.Asked, put-byte-reads.Learnt) (put-value-at t) put-value.Post
 put-value-put-byte-requires t c κs = omega (arith, c .before .before .before .put-fields .ensures .onward .at-in, c .before .before .before .put-fields .ensures .onward .kept)
 
--- src/lib.rt:255:5
 put-value-stand-requires-4 : (t : ℕ) → put-value-lts.Need-stand-requires-4 (stand-reads.Asked, stand-reads.Learnt, run-of-reads.Asked, run-of-reads.Learnt, put-scalar-reads.Asked, put-scalar-reads.Learnt, open-group-reads.Asked, open-group-reads.Learnt, count-of-reads.Asked, count-of-reads.Learnt, put-fields-below t, put-fields.Post, put-byte-reads.Asked, put-byte-reads.Learnt) (put-value-at t) put-value.Post
 put-value-stand-requires-4 t c κs = search needs
 
--- src/lib.rt:228:1
 put-value-same-length-2 : (t : ℕ) → put-value-lts.Need-same-length-2 (stand-reads.Asked, stand-reads.Learnt, run-of-reads.Asked, run-of-reads.Learnt, put-scalar-reads.Asked, put-scalar-reads.Learnt, open-group-reads.Asked, open-group-reads.Learnt, count-of-reads.Asked, count-of-reads.Learnt, put-fields-below t, put-fields.Post, put-byte-reads.Asked, put-byte-reads.Learnt) (put-value-at t) put-value.Post
 put-value-same-length-2 t c = c .before .before .before .put-byte .ensures .kept ∙ c .before .before .before .before .before .before .before .put-fields .ensures .onward .kept ∙ c .before .before .before .before .before .before .before .before .before .before .before .before .open-group .ensures .kept
 
--- src/lib.rt:228:1
 put-value-returns-4 : (t : ℕ) → put-value-lts.Need-returns-4 (stand-reads.Asked, stand-reads.Learnt, run-of-reads.Asked, run-of-reads.Learnt, put-scalar-reads.Asked, put-scalar-reads.Learnt, open-group-reads.Asked, open-group-reads.Learnt, count-of-reads.Asked, count-of-reads.Learnt, put-fields-below t, put-fields.Post, put-byte-reads.Asked, put-byte-reads.Learnt) (put-value-at t) put-value.Post
 put-value-returns-4 t c = rw (c .stand4 .ensures) (record { onward = record { on = omega (arith, c .before .before .before .before .before .before .before .put-fields .ensures .onward .on); word-in = c .before .before .before .before .before .before .before .put-fields .ensures .onward .word-in; pool-in = c .before .before .before .before .before .before .before .put-fields .ensures .onward .pool-in; at-in = omega (arith, c .before .before .before .put-byte .ensures .inside, c .before .before .before .before .before .before .before .put-fields .ensures .onward .kept, c .before .before .before .before .before .before .before .before .before .before .before .before .open-group .ensures .kept); kept = c .before .before .before .put-byte .ensures .kept ∙ c .before .before .before .before .before .before .before .put-fields .ensures .onward .kept ∙ c .before .before .before .before .before .before .before .before .before .before .before .before .open-group .ensures .kept }; says = laws.a-group (c .before .before .before .before .before .before .before .before .before .before .before .before .before .before .before .before .before .before .before .before .before .args .words .now) (c .before .before .before .before .before .before .before .before .before .before .before .before .before .before .before .before .before .before .before .before .before .args .pool .now) (c .before .before .before .before .before .before .before .before .before .before .before .before .before .before .before .before .before .before .before .before .before .args .word) (c .before .before .before .before .before .before .before .before .before .before .before .before .before .before .before .before .before .before .before .before .before .args .from) (c .before .before .before .before .before .before .before .before .before .before .before .before .before .before .before .before .before .before .before .before .before .args .at) (c .before .before .before .before .before .before .before .before .before .before .before .before .before .before .before .before .before .before .before .before .before .args .out .now) _ _ _ _ refl refl (omega (arith, c .before .before .before .before .before .before .before .before .before .before .before .before .before .before .if2 .left)) (c .before .before .before .before .before .before .before .before .before .before .before .before .open-group .result) (c .before .before .before .put-byte .result) _ _ (c .before .before .before .before .before .before .before .put-fields .result) (c .before .before .before .before .before .before .before .before .before .before .before .before .open-group .ensures) (c .before .before .before .before .before .before .before .put-fields .ensures .onward .kept) (rw (c .before .before .before .before .before .before .before .before .count-of .ensures) at (c .before .before .before .before .before .before .before .put-fields .ensures .says)) (c .before .before .before .put-byte .ensures) refl refl refl })
 

@@ -1,14 +1,10 @@
 use borrow.Author.Tests.{eq-eqb, ne-eqb}
 use Rattle.write.proofs.count_of.Statement.{statement}
 use Rattle.write.proofs.count_of.Tie as tie
-use Rattle.write.proofs.count_of.Reads as reads
-use Rattle.write.proofs.count_of.Lts as lts
 
--- src/lib.rt:179:1
 returns : tie.Need-returns
 returns c = rw (eq-eqb (c .before .args .kind) 5 (c .if1 .taken))
 
--- src/lib.rt:179:1
 returns-2 : tie.Need-returns-2
 returns-2 c = rw (ne-eqb (c .before .args .kind) 5 (c .if1 .left))
 

@@ -5,36 +5,25 @@ use Rattle.write.proofs.Steps as laws
 use borrow.Author.Needs.{needs}
 use Rattle.write.proofs.open_group.Statement.{statement}
 use Rattle.write.proofs.open_group.Tie as tie
-use Rattle.write.proofs.open_group.Reads as reads
-use Rattle.write.proofs.open_group.Lts as lts
-use Rattle.write.proofs.put_byte.Reads as put-byte-reads
-use Rattle.write.proofs.put_disc.Reads as put-disc-reads
 
--- src/lib.rt:191:9
 put-byte-requires : tie.Need-put-byte-requires
 put-byte-requires c κs = search needs
 
--- src/lib.rt:191:9
 same-length : tie.Need-same-length
 same-length c = search needs
 
--- src/lib.rt:191:9
 returns : tie.Need-returns
 returns c = rw (eq-eqb (c .before .before .before .before .before .before .args .kind) 5 (c .before .before .before .before .if1 .taken)) (c .before .before .put-byte .ensures)
 
--- src/lib.rt:193:9
 put-byte-requires-2 : tie.Need-put-byte-requires-2
 put-byte-requires-2 c κs = search needs
 
--- src/lib.rt:194:5
 put-disc-requires : tie.Need-put-disc-requires
 put-disc-requires c κs = search needs
 
--- src/lib.rt:186:1
 same-length-2 : tie.Need-same-length-2
 same-length-2 c = search needs
 
--- src/lib.rt:186:1
 returns-2 : tie.Need-returns-2
 returns-2 c = rw (ne-eqb (c .before .before .before .before .before .before .before .before .before .before .args .kind) 5 (c .before .before .before .before .before .before .before .before .if1 .left)) (laws.stored-then _ _ _ _ _ _ (0x52 ∷ []) (uintBytes (c .before .before .before .before .before .before .before .before .before .before .args .x)) (c .before .before .before .before .before .before .put-byte2 .ensures) (c .before .before .put-disc .ensures))
 

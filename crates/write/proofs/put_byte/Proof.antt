@@ -5,26 +5,19 @@ use Rattle.write.proofs.Steps as laws
 use borrow.Author.Needs.{needs}
 use Rattle.write.proofs.put_byte.Statement.{statement}
 use Rattle.write.proofs.put_byte.Tie as tie
-use Rattle.write.proofs.put_byte.Reads as reads
-use Rattle.write.proofs.put_byte.Lts as lts
 
--- src/lib.rt:37:9
 slice-write-out : tie.Need-slice-write-out
 slice-write-out c = search needs
 
--- src/lib.rt:38:16
 add-result : tie.Need-add-result
 add-result c = search needs
 
--- src/lib.rt:38:9
 same-length : tie.Need-same-length
 same-length c = search needs
 
--- src/lib.rt:38:9
 returns : tie.Need-returns
 returns c = let a = c .before .args in laws.byte-stored (a .out .now) (a .at) (a .b) (c .if1 .taken)
 
--- src/lib.rt:32:1
 returns-2 : tie.Need-returns-2
 returns-2 c = let a = c .before .args in laws.no-room (a .out .now) (a .at) (a .b ∷ []) (c .before .pre) (omega (arith, c .if1 .left))
 

@@ -5,32 +5,22 @@ use Rattle.write.proofs.Steps as laws
 use borrow.Author.Needs.{needs}
 use Rattle.write.proofs.put_disc.Statement.{statement}
 use Rattle.write.proofs.put_disc.Tie as tie
-use Rattle.write.proofs.put_disc.Reads as reads
-use Rattle.write.proofs.put_disc.Lts as lts
-use Rattle.scalar.proofs.ints.uint_len.Reads as uint-len-reads
-use Rattle.scalar.proofs.ints.write_u64.Reads as write-u64-reads
 
--- src/lib.rt:59:8
 sub-if1 : tie.Need-sub-if1
 sub-if1 c = search needs
 
--- src/lib.rt:59:25
 uint-len-requires : tie.Need-uint-len-requires
 uint-len-requires c κs = search needs
 
--- src/lib.rt:60:9
 returns : tie.Need-returns
 returns c = let a = c .before .before .before .args in laws.no-room (a .out .now) (a .at) (uintBytes (a .n)) (c .before .before .before .pre) (omega (arith, c .if1 .taken, c .before .uint-len .ensures))
 
--- src/lib.rt:62:5
 write-u64-requires : tie.Need-write-u64-requires
 write-u64-requires c κs = search needs
 
--- src/lib.rt:55:1
 same-length : tie.Need-same-length
 same-length c = search needs
 
--- src/lib.rt:55:1
 returns-2 : tie.Need-returns-2
 returns-2 c = search needs
 

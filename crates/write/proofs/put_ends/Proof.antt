@@ -3,9 +3,6 @@ use borrow.Author.Needs.{needs}
 use Rattle.write.proofs.Steps as laws
 use Rattle.write.proofs.put_ends.Statement.{statement}
 use Rattle.write.proofs.put_ends.Tie as tie
-use Rattle.write.proofs.put_ends.Reads as reads
-use Rattle.write.proofs.put_ends.Lts as lts
-use Rattle.write.proofs.put_byte.Reads as put-byte-reads
 
 abbrev Inv-loop : tie.InvT-loop
 Inv-loop out₀ start count at₀ left₀ out at left = laws.Ending out₀ start count at left out
@@ -13,31 +10,24 @@ Inv-loop out₀ start count at₀ left₀ out at left = laws.Ending out₀ start
 abbrev μ-loop : tie.MeasureT-loop
 μ-loop out₀ start count at₀ left₀ out at left = left
 
--- src/lib.rt:204:5
 loop-holds : tie.Need-loop-holds Inv-loop μ-loop
 loop-holds c = laws.ends-start (c .before .args .out .now) (c .before .args .start) (c .before .args .count) (c .before .pre)
 
--- src/lib.rt:205:9
 put-byte-requires : tie.Need-put-byte-requires Inv-loop μ-loop
 put-byte-requires c κs = omega (arith, c .before .before .loop .inv .wrote .inside, c .before .before .loop .inv .wrote .kept)
 
--- src/lib.rt:206:9
 sub-left : tie.Need-sub-left Inv-loop μ-loop
 sub-left c = search needs
 
--- src/lib.rt:204:5
 loop-less : tie.Need-loop-less Inv-loop μ-loop
 loop-less c = search needs
 
--- src/lib.rt:204:5
 loop-again : tie.Need-loop-again Inv-loop μ-loop
 loop-again c = laws.ends-go (c .before .before .before .before .before .before .before .args .out .now) (c .before .before .before .before .before .loop .out) _ (c .before .before .before .before .before .before .before .args .start) (c .before .before .before .before .before .before .before .args .count) (c .before .before .before .before .before .loop .at) (c .before .before .before .before .before .loop .left) (c .before .before .put-byte .result) (c .before .before .before .before .before .loop .inv) (c .before .before .before .before .loop-test .taken) (c .before .before .put-byte .ensures)
 
--- src/lib.rt:198:1
 same-length : tie.Need-same-length Inv-loop μ-loop
 same-length c = c .before .loop .inv .wrote .kept
 
--- src/lib.rt:198:1
 returns : tie.Need-returns Inv-loop μ-loop
 returns c = laws.ends-done (c .before .before .before .args .out .now) (c .before .loop .out) (c .before .before .before .args .start) (c .before .before .before .args .count) (c .before .loop .at) (c .before .loop .left) (c .before .loop .inv) (c .loop-test .left)
 

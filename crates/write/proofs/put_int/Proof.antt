@@ -5,32 +5,22 @@ use Rattle.write.proofs.Steps as laws
 use borrow.Author.Needs.{needs}
 use Rattle.write.proofs.put_int.Statement.{statement}
 use Rattle.write.proofs.put_int.Tie as tie
-use Rattle.write.proofs.put_int.Reads as reads
-use Rattle.write.proofs.put_int.Lts as lts
-use Rattle.scalar.proofs.ints.int_len.Reads as int-len-reads
-use Rattle.scalar.proofs.ints.write_i64.Reads as write-i64-reads
 
--- src/lib.rt:48:8
 sub-if1 : tie.Need-sub-if1
 sub-if1 c = search needs
 
--- src/lib.rt:48:25
 int-len-requires : tie.Need-int-len-requires
 int-len-requires c κs = search needs
 
--- src/lib.rt:49:9
 returns : tie.Need-returns
 returns c = let a = c .before .before .before .args in laws.no-room (a .out .now) (a .at) (intBytes (a .w)) (c .before .before .before .pre) (omega (arith, c .if1 .taken, c .before .int-len .ensures))
 
--- src/lib.rt:51:5
 write-i64-requires : tie.Need-write-i64-requires
 write-i64-requires c κs = search needs
 
--- src/lib.rt:44:1
 same-length : tie.Need-same-length
 same-length c = search needs
 
--- src/lib.rt:44:1
 returns-2 : tie.Need-returns-2
 returns-2 c = search needs
 

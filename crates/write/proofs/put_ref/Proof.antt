@@ -6,27 +6,19 @@ use Rattle.write.proofs.Steps as laws
 use borrow.Author.Needs.{needs}
 use Rattle.write.proofs.put_ref.Statement.{statement}
 use Rattle.write.proofs.put_ref.Tie as tie
-use Rattle.write.proofs.put_ref.Reads as reads
-use Rattle.write.proofs.put_ref.Lts as lts
-use Rattle.scalar.proofs.refs.write_ref.Reads as write-ref-reads
 
--- src/lib.rt:70:8
 sub-if1 : tie.Need-sub-if1
 sub-if1 c = search needs
 
--- src/lib.rt:71:9
 returns : tie.Need-returns
 returns c = let a = c .before .before .args in let q = c .before .before .pre in let n = ref-long (a .raw) in laws.no-room (a .out .now) (a .at) (refBytes (a .raw)) q (omega (arith, c .if1 .taken))
 
--- src/lib.rt:73:5
 write-ref-requires : tie.Need-write-ref-requires
 write-ref-requires c κs = let a = c .before .before .before .args in let q = c .before .before .before .pre in let n = ref-long (a .raw) in omega (arith, c .before .if1 .left)
 
--- src/lib.rt:66:1
 same-length : tie.Need-same-length
 same-length c = search needs
 
--- src/lib.rt:66:1
 returns-2 : tie.Need-returns-2
 returns-2 c = let a = c .before .before .before .before .before .before .args in let q = c .before .before .before .before .before .before .pre in let n = ref-long (a .raw) in let r = c .before .before .write-ref .ensures in record { inside = omega (arith, c .before .before .before .before .if1 .left, r .0); kept = search needs; right = λ h. r }
 

@@ -8,66 +8,46 @@ use Rattle.write.proofs.Steps as laws
 use borrow.Author.Needs.{needs}
 use Rattle.write.proofs.put_scalar.Statement.{statement}
 use Rattle.write.proofs.put_scalar.Tie as tie
-use Rattle.write.proofs.put_scalar.Reads as reads
-use Rattle.write.proofs.put_scalar.Lts as lts
-use Rattle.write.proofs.put_byte.Reads as put-byte-reads
-use Rattle.write.proofs.put_int.Reads as put-int-reads
-use Rattle.write.proofs.put_ref.Reads as put-ref-reads
-use Rattle.write.proofs.put_run.Reads as put-run-reads
 
--- src/lib.rt:114:9
 put-int-requires : tie.Need-put-int-requires
 put-int-requires c κs = search needs
 
--- src/lib.rt:114:9
 same-length : tie.Need-same-length
 same-length c = search needs
 
--- src/lib.rt:114:9
 returns : tie.Need-returns
 returns c = let a = c .before .before .before .before .before .before .before .args in let run = slice (a .p) (a .e) (a .pool .now) in rw (← bytes-int (a .kind) (a .x) run (c .before .before .before .before .if1 .taken)) (c .before .before .put-int .ensures)
 
--- src/lib.rt:117:9
 put-ref-requires : tie.Need-put-ref-requires
 put-ref-requires c κs = search needs
 
--- src/lib.rt:117:9
 same-length-2 : tie.Need-same-length-2
 same-length-2 c = search needs
 
--- src/lib.rt:117:9
 returns-2 : tie.Need-returns-2
 returns-2 c = let a = c .before .before .before .before .before .before .before .before .args in let run = slice (a .p) (a .e) (a .pool .now) in rw (← bytes-ref (a .kind) (a .x) run (c .before .before .before .before .before .if1 .left) (c .before .before .before .before .if2 .taken)) (c .before .before .put-ref .ensures)
 
--- src/lib.rt:120:13
 put-byte-requires : tie.Need-put-byte-requires
 put-byte-requires c κs = search needs
 
--- src/lib.rt:121:9
 put-run-requires : tie.Need-put-run-requires
 put-run-requires c κs = search needs
 
--- src/lib.rt:121:9
 same-length-3 : tie.Need-same-length-3
 same-length-3 c = search needs
 
--- src/lib.rt:121:9
 returns-3 : tie.Need-returns-3
 returns-3 c = let a = c .before .before .before .before .before .before .before .before .before .before .before .before .before .args in let run = slice (a .p) (a .e) (a .pool .now) in rw (← bytes-str (a .kind) (a .x) run (c .before .before .before .before .before .before .before .before .before .before .if1 .left) (c .before .before .before .before .before .before .before .before .before .if2 .left) (c .before .before .before .before .before .before .before .before .if3 .taken)) (laws.stored-then _ _ _ _ _ _ (0x21 ∷ []) (escaped run) (c .before .before .before .before .before .before .put-byte .ensures) (c .before .before .put-run .ensures))
 
--- src/lib.rt:123:9
 put-byte-requires-2 : tie.Need-put-byte-requires-2
 put-byte-requires-2 c κs = search needs
 
--- src/lib.rt:124:5
 put-run-requires-2 : tie.Need-put-run-requires-2
 put-run-requires-2 c κs = search needs
 
--- src/lib.rt:101:1
 same-length-4 : tie.Need-same-length-4
 same-length-4 c = search needs
 
--- src/lib.rt:101:1
 returns-4 : tie.Need-returns-4
 returns-4 c = let a = c .before .before .before .before .before .before .before .before .before .before .before .before .before .args in let run = slice (a .p) (a .e) (a .pool .now) in rw (← bytes-raw (a .kind) (a .x) run (c .before .before .before .before .before .before .before .before .before .before .if1 .left) (c .before .before .before .before .before .before .before .before .before .if2 .left) (c .before .before .before .before .before .before .before .before .if3 .left)) (laws.stored-then _ _ _ _ _ _ (0x53 ∷ []) (escaped run) (c .before .before .before .before .before .before .put-byte2 .ensures) (c .before .before .put-run2 .ensures))
 

@@ -5,18 +5,13 @@ use borrow.Author.Needs.{needs}
 use Rattle.write.proofs.Steps as laws
 use Rattle.write.proofs.run_of.Statement.{statement}
 use Rattle.write.proofs.run_of.Tie as tie
-use Rattle.write.proofs.run_of.Reads as reads
-use Rattle.write.proofs.run_of.Lts as lts
 
--- src/lib.rt:92:9
 returns : tie.Need-returns
 returns c = pool-int (c .before .args .kind) (c .before .args .x) (c .if1 .taken)
 
--- src/lib.rt:95:9
 returns-2 : tie.Need-returns-2
 returns-2 c = pool-ref (c .before .before .args .kind) (c .before .before .args .x) (c .before .if1 .left) (c .if2 .taken)
 
--- src/lib.rt:88:1
 returns-3 : tie.Need-returns-3
 returns-3 c = pool-run (c .before .before .args .kind) (c .before .before .args .x) (c .before .if1 .left) (c .if2 .left)
 

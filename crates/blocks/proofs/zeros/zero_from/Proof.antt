@@ -6,52 +6,37 @@ use Rattle.blocks.proofs.Spans.{span-join}
 use borrow.Author.Needs.{needs}
 use Rattle.blocks.proofs.zeros.zero_from.Statement.{statement}
 use Rattle.blocks.proofs.zeros.zero_from.Tie as tie
-use Rattle.blocks.proofs.zeros.zero_from.Reads as reads
-use Rattle.blocks.proofs.zeros.zero_from.Lts as lts
-use Rattle.blocks.proofs.zeros.find_zero.Reads as find-zero-reads
-use Rattle.blocks.proofs.zeros.zero_of_four.Reads as zero-of-four-reads
 
--- src/zeros.rt:111:8
 sub-if1 : tie.Need-sub-if1
 sub-if1 c = search needs
 
--- src/zeros.rt:112:9
 find-zero-requires : tie.Need-find-zero-requires
 find-zero-requires c κs = search needs
 
--- src/zeros.rt:112:9
 returns : tie.Need-returns
 returns c = search needs
 
--- src/zeros.rt:114:9
 zero-of-four-requires : tie.Need-zero-of-four-requires
 zero-of-four-requires c κs = search needs
 
--- src/zeros.rt:115:15
 add-if2 : tie.Need-add-if2
 add-if2 c = search needs
 
--- src/zeros.rt:116:9
 returns-2 : tie.Need-returns-2
 returns-2 c = let n = c .before .zero-of-four .ensures in record { after = n .after; inside = omega (arith, n .inside, c .before .before .if1 .left); none = n .none; zero = λ h. n .zero (c .if2 .taken) }
 
--- src/zeros.rt:118:9
 zero-of-four-requires-2 : tie.Need-zero-of-four-requires-2
 zero-of-four-requires-2 c κs = search needs
 
--- src/zeros.rt:119:14
 add-if3 : tie.Need-add-if3
 add-if3 c = search needs
 
--- src/zeros.rt:120:9
 returns-3 : tie.Need-returns-3
 returns-3 c = let n = c .before .before .before .zero-of-four .ensures in let g = c .before .zero-of-four2 .ensures in record { after = omega (arith, n .after, g .after); inside = omega (arith, n .inside, g .inside, c .before .before .before .before .if1 .left); none = span-join (λ k. getD (c .before .before .before .before .before .before .args .s .now) k 0 ≡ 0 → ⊥) (c .before .before .before .before .before .before .args .from) (c .before .before .before .zero-of-four .result) (c .before .zero-of-four2 .result) (c .before .before .before .zero-of-four .ensures .none) (c .before .zero-of-four2 .ensures .none); zero = λ h. g .zero (c .if3 .taken) }
 
--- src/zeros.rt:122:5
 find-zero-requires-2 : tie.Need-find-zero-requires-2
 find-zero-requires-2 c κs = search needs
 
--- src/zeros.rt:107:1
 returns-4 : tie.Need-returns-4
 returns-4 c = let n = c .before .before .before .before .zero-of-four .ensures in let g = c .before .before .zero-of-four2 .ensures in let z = c .find-zero2 .ensures in record { after = omega (arith, n .after, g .after, z .after); inside = z .inside; none = span-join (λ k. getD (c .before .before .before .before .before .before .before .args .s .now) k 0 ≡ 0 → ⊥) (c .before .before .before .before .before .before .before .args .from) (c .before .before .zero-of-four2 .result) (c .find-zero2 .result) (span-join (λ k. getD (c .before .before .before .before .before .before .before .args .s .now) k 0 ≡ 0 → ⊥) (c .before .before .before .before .before .before .before .args .from) (c .before .before .before .before .zero-of-four .result) (c .before .before .zero-of-four2 .result) (c .before .before .before .before .zero-of-four .ensures .none) (c .before .before .zero-of-four2 .ensures .none)) (z .none); zero = z .zero }
 

@@ -7,70 +7,52 @@ use Rattle.blocks.proofs.Spans.{span-one, span-more}
 use borrow.Author.Needs.{needs}
 use Rattle.blocks.proofs.zeros.zero_of_four.Statement.{statement}
 use Rattle.blocks.proofs.zeros.zero_of_four.Tie as tie
-use Rattle.blocks.proofs.zeros.zero_of_four.Reads as reads
-use Rattle.blocks.proofs.zeros.zero_of_four.Lts as lts
 
--- src/zeros.rt:91:8
 shared-slice-read-if1 : tie.Need-shared-slice-read-if1
 shared-slice-read-if1 c = search needs
 
--- src/zeros.rt:92:9
 returns : tie.Need-returns
 returns c = search needs
 
--- src/zeros.rt:94:10
 add-if2 : tie.Need-add-if2
 add-if2 c = search needs
 
--- src/zeros.rt:94:8
 shared-slice-read-if2 : tie.Need-shared-slice-read-if2
 shared-slice-read-if2 c = search needs
 
--- src/zeros.rt:95:16
 add-result : tie.Need-add-result
 add-result c = search needs
 
--- src/zeros.rt:95:9
 returns-2 : tie.Need-returns-2
 returns-2 c = record { after = omega arith; inside = omega arith; none = span-one (λ k. getD (c .before .before .before .before .args .s .now) k 0 ≡ 0 → ⊥) (c .before .before .before .before .args .from) (c .before .before .before .before .args .from) (λ k a b. absurd (omega arith)) (c .before .before .if1 .left); zero = λ h. c .if2 .taken }
 
--- src/zeros.rt:97:10
 add-if3 : tie.Need-add-if3
 add-if3 c = search needs
 
--- src/zeros.rt:97:8
 shared-slice-read-if3 : tie.Need-shared-slice-read-if3
 shared-slice-read-if3 c = search needs
 
--- src/zeros.rt:98:16
 add-result-2 : tie.Need-add-result-2
 add-result-2 c = search needs
 
--- src/zeros.rt:98:9
 returns-3 : tie.Need-returns-3
 returns-3 c = record { after = omega arith; inside = omega arith; none = span-more (λ k. getD (c .before .before .before .before .before .before .args .s .now) k 0 ≡ 0 → ⊥) (c .before .before .before .before .before .before .args .from) 1 (span-one (λ k. getD (c .before .before .before .before .before .before .args .s .now) k 0 ≡ 0 → ⊥) (c .before .before .before .before .before .before .args .from) (c .before .before .before .before .before .before .args .from) (λ k a b. absurd (omega arith)) (c .before .before .before .before .if1 .left)) (c .before .before .if2 .left); zero = λ h. c .if3 .taken }
 
--- src/zeros.rt:100:10
 add-if4 : tie.Need-add-if4
 add-if4 c = search needs
 
--- src/zeros.rt:100:8
 shared-slice-read-if4 : tie.Need-shared-slice-read-if4
 shared-slice-read-if4 c = search needs
 
--- src/zeros.rt:101:16
 add-result-3 : tie.Need-add-result-3
 add-result-3 c = search needs
 
--- src/zeros.rt:101:9
 returns-4 : tie.Need-returns-4
 returns-4 c = record { after = omega arith; inside = omega arith; none = span-more (λ k. getD (c .before .before .before .before .before .before .before .before .args .s .now) k 0 ≡ 0 → ⊥) (c .before .before .before .before .before .before .before .before .args .from) 2 (span-more (λ k. getD (c .before .before .before .before .before .before .before .before .args .s .now) k 0 ≡ 0 → ⊥) (c .before .before .before .before .before .before .before .before .args .from) 1 (span-one (λ k. getD (c .before .before .before .before .before .before .before .before .args .s .now) k 0 ≡ 0 → ⊥) (c .before .before .before .before .before .before .before .before .args .from) (c .before .before .before .before .before .before .before .before .args .from) (λ k a b. absurd (omega arith)) (c .before .before .before .before .before .before .if1 .left)) (c .before .before .before .before .if2 .left)) (c .before .before .if3 .left); zero = λ h. c .if4 .taken }
 
--- src/zeros.rt:103:5
 add-result-4 : tie.Need-add-result-4
 add-result-4 c = search needs
 
--- src/zeros.rt:87:1
 returns-5 : tie.Need-returns-5
 returns-5 c = record { after = omega arith; inside = omega arith; none = span-more (λ k. getD (c .before .before .before .before .before .before .before .before .args .s .now) k 0 ≡ 0 → ⊥) (c .before .before .before .before .before .before .before .before .args .from) 3 (span-more (λ k. getD (c .before .before .before .before .before .before .before .before .args .s .now) k 0 ≡ 0 → ⊥) (c .before .before .before .before .before .before .before .before .args .from) 2 (span-more (λ k. getD (c .before .before .before .before .before .before .before .before .args .s .now) k 0 ≡ 0 → ⊥) (c .before .before .before .before .before .before .before .before .args .from) 1 (span-one (λ k. getD (c .before .before .before .before .before .before .before .before .args .s .now) k 0 ≡ 0 → ⊥) (c .before .before .before .before .before .before .before .before .args .from) (c .before .before .before .before .before .before .before .before .args .from) (λ k a b. absurd (omega arith)) (c .before .before .before .before .before .before .if1 .left)) (c .before .before .before .before .if2 .left)) (c .before .before .if3 .left)) (c .if4 .left); zero = λ h. absurd (omega arith) }
 

@@ -8,73 +8,52 @@ use Rattle.key.proofs.CallLaws as laws
 use borrow.Author.Needs.{needs}
 use Rattle.key.proofs.bounding.bounds.Statement.{statement}
 use Rattle.key.proofs.bounding.bounds.Tie as tie
-use Rattle.key.proofs.bounding.bounds.Reads as reads
-use Rattle.key.proofs.bounding.bounds.Lts as lts
-use Rattle.key.proofs.bounding.write_ends.Reads as write-ends-reads
-use Rattle.key.proofs.passing.split_key.Reads as split-key-reads
-use Rattle.sheet.proofs.admit_type.Reads as admit-type-reads
 
--- src/bounding.rt:38:9
 admit-type-requires : tie.Need-admit-type-requires
 admit-type-requires c κs = search needs
 
--- src/bounding.rt:39:9
 returns : tie.Need-returns
 returns c = let s = c .before .before .before .before .before .before in let a = s .args in laws.b-type (a .ty .now) (a .key .now) (a .k) (a .lower .now) (a .upper .now) (sym (c .before .admit-type .ensures) ∙ not-true (c .before .admit-type .result) (c .if1 .taken))
 
--- src/bounding.rt:41:8
 shared-slice-read-if2 : tie.Need-shared-slice-read-if2
 shared-slice-read-if2 c = let s = c .before .before .before .before .before .before .before in let a = s .args in let adm = sym (c .before .before .admit-type .ensures) ∙ not-false (c .before .before .admit-type .result) (c .before .if1 .left) in laws.some-words (a .ty .now) adm
 
--- src/bounding.rt:42:9
 returns-2 : tie.Need-returns-2
 returns-2 c = let s = c .before .before .before .before .before .before .before .before in let a = s .args in let adm = sym (c .before .before .before .admit-type .ensures) ∙ not-false (c .before .before .before .admit-type .result) (c .before .before .if1 .left) in laws.b-kind (a .ty .now) (a .key .now) (a .k) (a .lower .now) (a .upper .now) adm (c .if2 .taken)
 
--- src/bounding.rt:44:13
 shared-slice-read-n : tie.Need-shared-slice-read-n
 shared-slice-read-n c = let s = c .before .before .before .before .before .before .before .before .before in let a = s .args in let adm = sym (c .before .before .before .before .admit-type .ensures) ∙ not-false (c .before .before .before .before .admit-type .result) (c .before .before .before .if1 .left) in let r = laws.record-type (a .ty .now) adm (c .before .if2 .left) in r .long
 
--- src/bounding.rt:45:9
 cast-if3 : tie.Need-cast-if3
 cast-if3 c = omega (arith, c .shared-slice-known4 .given 1)
 
--- src/bounding.rt:46:9
 returns-3 : tie.Need-returns-3
 returns-3 c = let s = c .before .before .before .before .before .before .before .before .before .before in let a = s .args in let adm = sym (c .before .before .before .before .before .admit-type .ensures) ∙ not-false (c .before .before .before .before .before .admit-type .result) (c .before .before .before .before .if1 .left) in let r = laws.record-type (a .ty .now) adm (c .before .before .if2 .left) in laws.b-over (a .ty .now) (a .key .now) (a .k) (a .lower .now) (a .upper .now) r (c .if3 .taken)
 
--- src/bounding.rt:48:49
 cast-split-key : tie.Need-cast-split-key
 cast-split-key c = omega (arith, c .before .shared-slice-known4 .given 1, c .if3 .left)
 
--- src/bounding.rt:48:11
 split-key-requires : tie.Need-split-key-requires
 split-key-requires c κs = let s = c .before .before .before .before .before .before .before .before .before .before in let a = s .args in let adm = sym (c .before .before .before .before .before .admit-type .ensures) ∙ not-false (c .before .before .before .before .before .admit-type .result) (c .before .before .before .before .if1 .left) in let r = laws.record-type (a .ty .now) adm (c .before .before .if2 .left) in (laws.fields-at (a .ty .now) r, omega (arith, c .if3 .left))
 
--- src/bounding.rt:49:24
 enum-known-no : tie.Need-enum-known-no
 enum-known-no c = search needs
 
--- src/bounding.rt:50:19
 enum-known-end : tie.Need-enum-known-end
 enum-known-end c = search needs
 
--- src/bounding.rt:50:27
 write-ends-requires : tie.Need-write-ends-requires
 write-ends-requires c κs = let s = c .before .before .before .before .before .before .before .before .before .before .before .before .before .before .before .before in let a = s .args in let adm = sym (c .before .before .before .before .before .before .before .before .before .before .before .admit-type .ensures) ∙ not-false (c .before .before .before .before .before .before .before .before .before .before .before .admit-type .result) (c .before .before .before .before .before .before .before .before .before .before .if1 .left) in let r = laws.record-type (a .ty .now) adm (c .before .before .before .before .before .before .before .before .if2 .left) in let h : a .k ≤ getD (a .ty .now) 1 0 = omega (arith, c .before .before .before .before .before .before .if3 .left) in let ab = all-bytes (a .key .now) (λ i. omega (arith, c .before .before .before .before .before .before .before .before .before .before .before .before .before .before .shared-slice-known2 .given i)) in laws.b-start (a .ty .now) (a .key .now) (a .k) (a .lower .now) (a .upper .now) r h ab _ (rw (c .before .before .before .end .given .1) at (c .before .before .before .before .before .split-key .ensures))
 
--- src/bounding.rt:35:1
 returns-4 : tie.Need-returns-4
 returns-4 c = let s = c .before .before .before .before .before .before .before .before .before .before .before .before .before .before in let a = s .args in let adm = sym (c .before .before .before .before .before .before .before .before .before .admit-type .ensures) ∙ not-false (c .before .before .before .before .before .before .before .before .before .admit-type .result) (c .before .before .before .before .before .before .before .before .if1 .left) in let r = laws.record-type (a .ty .now) adm (c .before .before .before .before .before .before .if2 .left) in let h : a .k ≤ getD (a .ty .now) 1 0 = omega (arith, c .before .before .before .before .if3 .left) in let ab = all-bytes (a .key .now) (λ i. omega (arith, c .before .before .before .before .before .before .before .before .before .before .before .before .shared-slice-known2 .given i)) in laws.b-bad (a .ty .now) (a .key .now) (a .k) (a .lower .now) (a .upper .now) r h ab _ _ (rw (c .before .no .given .1) at (c .before .before .before .split-key .ensures))
 
--- src/bounding.rt:35:1
 same-length : tie.Need-same-length
 same-length c = search needs
 
--- src/bounding.rt:35:1
 same-length-2 : tie.Need-same-length-2
 same-length-2 c = search needs
 
--- src/bounding.rt:35:1
 returns-5 : tie.Need-returns-5
 returns-5 c = let s = c .before .before .before .before .before .before .before .before .before .before .before .before .before .before .before .before .before .before .before .before .before in let a = s .args in let adm = sym (c .before .before .before .before .before .before .before .before .before .before .before .before .before .before .before .before .admit-type .ensures) ∙ not-false (c .before .before .before .before .before .before .before .before .before .before .before .before .before .before .before .before .admit-type .result) (c .before .before .before .before .before .before .before .before .before .before .before .before .before .before .before .if1 .left) in let r = laws.record-type (a .ty .now) adm (c .before .before .before .before .before .before .before .before .before .before .before .before .before .if2 .left) in let h : a .k ≤ getD (a .ty .now) 1 0 = omega (arith, c .before .before .before .before .before .before .before .before .before .before .before .if3 .left) in let ab = all-bytes (a .key .now) (λ i. omega (arith, c .before .before .before .before .before .before .before .before .before .before .before .before .before .before .before .before .before .before .before .shared-slice-known2 .given i)) in laws.b-good (a .ty .now) (a .key .now) (a .k) (a .lower .now) (a .upper .now) r h ab _ (rw (c .before .before .before .before .before .before .before .before .end .given .1) at (c .before .before .before .before .before .before .before .before .before .before .split-key .ensures)) _ _ _ (c .before .before .before .before .write-ends .ensures)
 

@@ -2,27 +2,19 @@ use Rattle.key.proofs.PassLaws as laws
 use borrow.Author.Needs.{needs}
 use Rattle.key.proofs.passing.pass_fields.Statement.{statement}
 use Rattle.key.proofs.passing.pass_fields.Tie as tie
-use Rattle.key.proofs.passing.pass_fields.Reads as reads
-use Rattle.key.proofs.passing.pass_fields.Lts as lts
-use Rattle.read.proofs.walk_bare.Reads as walk-bare-reads
 
--- src/passing.rt:64:11
 walk-bare-requires : tie.Need-walk-bare-requires
 walk-bare-requires c κs = search needs
 
--- src/passing.rt:66:13
 enum-known-no : tie.Need-enum-known-no
 enum-known-no c = search needs
 
--- src/passing.rt:71:17
 enum-known-end : tie.Need-enum-known-end
 enum-known-end c = search needs
 
--- src/passing.rt:60:1
 returns : tie.Need-returns
 returns c = let a = c .before .before .before .before .before .before .args in laws.fields-refused (a .ty .now) (a .at) (a .n) (a .bytes .now) (a .i) (c .before .before .before .walk-bare .result) (c .before .before .before .walk-bare .ensures) _ _ _ (c .before .no .given .1)
 
--- src/passing.rt:60:1
 returns-2 : tie.Need-returns-2
 returns-2 c = let a = c .before .before .before .before .before .before .args in laws.fields-to (a .ty .now) (a .at) (a .n) (a .bytes .now) (a .i) (c .before .before .before .walk-bare .result) (c .before .before .before .walk-bare .ensures) _ _ _ _ (c .before .end .given .1)
 

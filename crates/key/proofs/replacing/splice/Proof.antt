@@ -3,32 +3,22 @@ use Rattle.key.proofs.SpliceLaws as laws
 use borrow.Author.Needs.{needs}
 use Rattle.key.proofs.replacing.splice.Statement.{statement}
 use Rattle.key.proofs.replacing.splice.Tie as tie
-use Rattle.key.proofs.replacing.splice.Reads as reads
-use Rattle.key.proofs.replacing.splice.Lts as lts
-use Rattle.blocks.proofs.move_within.Reads as move-within-reads
-use Rattle.write.proofs.put_value.Reads as put-value-reads
 
--- src/replacing.rt:28:38
 add-move-within : tie.Need-add-move-within
 add-move-within c = search needs
 
--- src/replacing.rt:28:49
 sub-move-within : tie.Need-sub-move-within
 sub-move-within c = search needs
 
--- src/replacing.rt:28:5
 move-within-requires : tie.Need-move-within-requires
 move-within-requires c κs = search needs
 
--- src/replacing.rt:29:5
 put-value-requires : tie.Need-put-value-requires
 put-value-requires c κs = search needs
 
--- src/replacing.rt:16:1
 same-length : tie.Need-same-length
 same-length c = search needs
 
--- src/replacing.rt:16:1
 returns : tie.Need-returns
 returns c = let s = c .before .before .before .before .before .before .before .before .before .before .before in let a = s .args in laws.spliced-by (a .buffer .now) (a .used) (a .start) (a .end) (a .n) (a .words .now) (a .pool .now) _ _ (c .before .before .put-value .result) (s .pre) (c .before .before .before .before .before .before .move-within .ensures) (c .before .before .put-value .ensures .says)
 

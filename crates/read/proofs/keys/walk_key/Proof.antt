@@ -4,32 +4,22 @@ use Rattle.read.proofs.KeyLaws as keys
 use Rattle.read.proofs.WalkLaws as laws
 use Rattle.read.proofs.keys.walk_key.Statement.{statement}
 use Rattle.read.proofs.keys.walk_key.Tie as tie
-use Rattle.read.proofs.keys.walk_key.Reads as reads
-use Rattle.read.proofs.keys.walk_key.Lts as lts
-use Rattle.read.proofs.keys.walk_bare.Reads as walk-bare-reads
-use Rattle.read.proofs.values.walk_value.Reads as walk-value-reads
 
--- src/keys.rt:52:8
 shared-slice-read-if1 : tie.Need-shared-slice-read-if1
 shared-slice-read-if1 c = let s = c .before .before .before in let a = s .args in omega (arith, laws.at-in (a .ty .now) 0 (s .pre))
 
--- src/keys.rt:53:17
 shared-slice-read-n : tie.Need-shared-slice-read-n
 shared-slice-read-n c = let s = c .before .before .before .before .before in let a = s .args in omega (arith, keys.k-next (a .ty .now) (a .bytes .now) (c .before .if1 .taken) (s .pre) .0)
 
--- src/keys.rt:54:9
 walk-bare-requires : tie.Need-walk-bare-requires
 walk-bare-requires c κs = let s = c .before .before .before .before .before in let a = s .args in (keys.k-next (a .ty .now) (a .bytes .now) (c .before .if1 .taken) (s .pre) .1, omega arith)
 
--- src/keys.rt:54:9
 returns : tie.Need-returns
 returns c = let s = c .before .before .before .before .before .before in let a = s .args in keys.k-record (a .ty .now) (a .bytes .now) (c .before .before .if1 .taken) _ (c .walk-bare .ensures)
 
--- src/keys.rt:56:5
 walk-value-requires : tie.Need-walk-value-requires
 walk-value-requires c κs = search needs
 
--- src/keys.rt:48:1
 returns-2 : tie.Need-returns-2
 returns-2 c = let s = c .before .before .before .before .before in let a = s .args in keys.k-other (a .ty .now) (a .bytes .now) _ (c .before .if1 .left) (c .walk-value .ensures)
 

@@ -3,64 +3,46 @@ use native.Mathlib.Omega.{arith}
 use Rattle.read.proofs.LeafLaws as laws
 use Rattle.read.proofs.leaves.find_run.Statement.{statement}
 use Rattle.read.proofs.leaves.find_run.Tie as tie
-use Rattle.read.proofs.leaves.find_run.Reads as reads
-use Rattle.read.proofs.leaves.find_run.Lts as lts
-use Rattle.read.proofs.marks.wide.Reads as wide-reads
-use Rattle.scalar.proofs.runs.measure_run.Reads as measure-run-reads
 
--- src/leaves.rt:61:9
 returns : tie.Need-returns
 returns c = search laws.run-eof
 
--- src/leaves.rt:63:17
 shared-slice-read-found : tie.Need-shared-slice-read-found
 shared-slice-read-found c = search needs
 
--- src/leaves.rt:65:54
 wide-requires : tie.Need-wide-requires
 wide-requires c κs = search needs
 
--- src/leaves.rt:65:9
 returns-2 : tie.Need-returns-2
 returns-2 c = search laws.run-mark
 
--- src/leaves.rt:67:13
 add-j : tie.Need-add-j
 add-j c = search needs
 
--- src/leaves.rt:68:37
 sub-measure-run : tie.Need-sub-measure-run
 sub-measure-run c = search needs
 
--- src/leaves.rt:68:37
 part-measure-run-start : tie.Need-part-measure-run-start
 part-measure-run-start c = search needs
 
--- src/leaves.rt:68:37
 part-measure-run-end : tie.Need-part-measure-run-end
 part-measure-run-end c = search needs
 
--- src/leaves.rt:68:11
 measure-run-requires : tie.Need-measure-run-requires
 measure-run-requires c κs = search needs
 
--- src/leaves.rt:69:29
 enum-told : tie.Need-enum-told
 enum-told c = search needs
 
--- src/leaves.rt:70:22
 enum-known-e : tie.Need-enum-known-e
 enum-known-e c = search needs
 
--- src/leaves.rt:71:23
 add-end : tie.Need-add-end
 add-end c = let s = c .before .before .before .before .before .before .before .before .before in let a = s .args in let f = laws.run-found (a .bytes .now) (a .i) (a .mark) (c .before .before .before .before .before .before .before .if1 .left) (c .before .before .before .before .before .if2 .left) (c .before .before .before .measure-run .result) (c .before .before .before .measure-run .ensures) _ _ (c .before .e .given .1) in omega (arith, f .within)
 
--- src/leaves.rt:57:1
 returns-3 : tie.Need-returns-3
 returns-3 c = search laws.run-open
 
--- src/leaves.rt:57:1
 returns-4 : tie.Need-returns-4
 returns-4 c = search laws.run-found
 

@@ -3,43 +3,31 @@ use Rattle.read.proofs.LeafLaws as laws
 use native.Mathlib.Omega.{arith}
 use Rattle.read.proofs.leaves.walk_bytes.Statement.{statement}
 use Rattle.read.proofs.leaves.walk_bytes.Tie as tie
-use Rattle.read.proofs.leaves.walk_bytes.Reads as reads
-use Rattle.read.proofs.leaves.walk_bytes.Lts as lts
-use Rattle.read.proofs.leaves.find_run.Reads as find-run-reads
 
--- src/leaves.rt:95:11
 find-run-requires : tie.Need-find-run-requires
 find-run-requires c κs = search needs
 
--- src/leaves.rt:96:22
 enum-known-no : tie.Need-enum-known-no
 enum-known-no c = search needs
 
--- src/leaves.rt:99:20
 add-t14 : tie.Need-add-t14
 add-t14 c = search needs
 
--- src/leaves.rt:101:19
 enum-known-end : tie.Need-enum-known-end
 enum-known-end c = search needs
 
--- src/leaves.rt:102:24
 add-next : tie.Need-add-next
 add-next c = let f = laws.bytes-run (c .before .before .before .before .before .args .bytes .now) (c .before .before .before .before .before .args .i) (c .before .before .before .before .before .args .p) (c .before .before .before .before .before .args .b) (c .before .before .before .before .before .args .at) (c .before .before .before .before .before .pre) (c .before .before .before .find-run .result) (c .before .before .before .find-run .ensures) _ _ (c .before .end .given .1) in omega (arith, f .within)
 
--- src/leaves.rt:103:22
 add-p1 : tie.Need-add-p1
 add-p1 c = let f = laws.bytes-run (c .before .before .before .before .before .args .bytes .now) (c .before .before .before .before .before .args .i) (c .before .before .before .before .before .args .p) (c .before .before .before .before .before .args .b) (c .before .before .before .before .before .args .at) (c .before .before .before .before .before .pre) (c .before .before .before .find-run .result) (c .before .before .before .find-run .ensures) _ _ (c .before .end .given .1) in omega (arith, f .low, f .within, c .before .before .before .before .before .pre .pool)
 
--- src/leaves.rt:108:24
 add-t15 : tie.Need-add-t15
 add-t15 c = search needs
 
--- src/leaves.rt:91:1
 returns : tie.Need-returns
 returns c = laws.bytes-bad (c .before .before .before .before .before .args .bytes .now) (c .before .before .before .before .before .args .i) (c .before .before .before .before .before .args .p) (c .before .before .before .before .before .args .b) (c .before .before .before .before .before .args .at) (c .before .before .before .before .before .pre) (c .before .before .before .find-run .result) (c .before .before .before .find-run .ensures) _ _ (c .before .no .given .1)
 
--- src/leaves.rt:91:1
 returns-2 : tie.Need-returns-2
 returns-2 c = laws.bytes-good (c .before .before .before .before .before .args .bytes .now) (c .before .before .before .before .before .args .i) (c .before .before .before .before .before .args .p) (c .before .before .before .before .before .args .b) (c .before .before .before .before .before .args .at) (c .before .before .before .before .before .pre) (c .before .before .before .find-run .result) (c .before .before .before .find-run .ensures) _ _ (c .before .end .given .1)
 

@@ -3,59 +3,43 @@ use Rattle.read.proofs.LeafLaws as laws
 use native.Mathlib.Omega.{arith}
 use Rattle.read.proofs.leaves.walk_ref.Statement.{statement}
 use Rattle.read.proofs.leaves.walk_ref.Tie as tie
-use Rattle.read.proofs.leaves.walk_ref.Reads as reads
-use Rattle.read.proofs.leaves.walk_ref.Lts as lts
-use Rattle.scalar.proofs.get_fact_id.Reads as get-fact-id-reads
 
--- src/leaves.rt:119:31
 sub-get-fact-id : tie.Need-sub-get-fact-id
 sub-get-fact-id c = search needs
 
--- src/leaves.rt:119:31
 part-get-fact-id-start : tie.Need-part-get-fact-id-start
 part-get-fact-id-start c = search needs
 
--- src/leaves.rt:119:31
 part-get-fact-id-end : tie.Need-part-get-fact-id-end
 part-get-fact-id-end c = search needs
 
--- src/leaves.rt:119:11
 get-fact-id-requires : tie.Need-get-fact-id-requires
 get-fact-id-requires c κs = search needs
 
--- src/leaves.rt:120:25
 enum-known-no : tie.Need-enum-known-no
 enum-known-no c = search needs
 
--- src/leaves.rt:123:20
 add-t19 : tie.Need-add-t19
 add-t19 c = search needs
 
--- src/leaves.rt:125:23
 enum-known-raw : tie.Need-enum-known-raw
 enum-known-raw c = search needs
 
--- src/leaves.rt:131:28
 add-t22 : tie.Need-add-t22
 add-t22 c = search needs
 
--- src/leaves.rt:128:17
 returns : tie.Need-returns
 returns c = laws.ref-other (c .before .before .before .before .before .before .before .args .predicate) (c .before .before .before .before .before .before .before .args .bytes .now) (c .before .before .before .before .before .before .before .args .i) (c .before .before .before .before .before .before .before .args .p) (c .before .before .before .before .before .before .before .args .b) (c .before .before .before .before .before .before .before .args .at) (c .before .before .before .before .before .before .before .pre) (c .before .before .before .before .get-fact-id .result) (c .before .before .before .before .get-fact-id .ensures) _ _ (c .before .before .raw .given .1) (c .if1 .taken)
 
--- src/leaves.rt:134:24
 add-next : tie.Need-add-next
 add-next c = omega (arith, laws.ref-within (c .before .before .before .before .before .before .before .args .predicate) (c .before .before .before .before .before .before .before .args .bytes .now) (c .before .before .before .before .before .before .before .args .i) (c .before .before .before .before .before .before .before .args .p) (c .before .before .before .before .before .before .before .args .b) (c .before .before .before .before .before .before .before .args .at) (c .before .before .before .before .before .before .before .pre) (c .before .before .before .before .get-fact-id .result) (c .before .before .before .before .get-fact-id .ensures) _ _ (c .before .before .raw .given .1))
 
--- src/leaves.rt:139:24
 add-t23 : tie.Need-add-t23
 add-t23 c = search needs
 
--- src/leaves.rt:115:1
 returns-2 : tie.Need-returns-2
 returns-2 c = laws.ref-bad (c .before .before .before .before .before .before .args .predicate) (c .before .before .before .before .before .before .args .bytes .now) (c .before .before .before .before .before .before .args .i) (c .before .before .before .before .before .before .args .p) (c .before .before .before .before .before .before .args .b) (c .before .before .before .before .before .before .args .at) (c .before .before .before .before .before .before .pre) (c .before .before .before .get-fact-id .result) (c .before .before .before .get-fact-id .ensures) _ _ (c .before .no .given .1)
 
--- src/leaves.rt:115:1
 returns-3 : tie.Need-returns-3
 returns-3 c = laws.ref-good (c .before .before .before .before .before .before .before .args .predicate) (c .before .before .before .before .before .before .before .args .bytes .now) (c .before .before .before .before .before .before .before .args .i) (c .before .before .before .before .before .before .before .args .p) (c .before .before .before .before .before .before .before .args .b) (c .before .before .before .before .before .before .before .args .at) (c .before .before .before .before .before .before .before .pre) (c .before .before .before .before .get-fact-id .result) (c .before .before .before .before .get-fact-id .ensures) _ _ (c .before .before .raw .given .1) (c .if1 .left)
 

@@ -4,72 +4,52 @@ use Rattle.read.proofs.LeafLaws as laws
 use native.Mathlib.Omega.{arith}
 use Rattle.read.proofs.leaves.walk_str.Statement.{statement}
 use Rattle.read.proofs.leaves.walk_str.Tie as tie
-use Rattle.read.proofs.leaves.walk_str.Reads as reads
-use Rattle.read.proofs.leaves.walk_str.Lts as lts
-use Rattle.read.proofs.leaves.find_run.Reads as find-run-reads
-use Rattle.scalar.proofs.runs.payload_is_text.Reads as payload-is-text-reads
 
--- src/leaves.rt:64:11
 find-run-requires : tie.Need-find-run-requires
 find-run-requires c κs = search needs
 
--- src/leaves.rt:65:22
 enum-known-no : tie.Need-enum-known-no
 enum-known-no c = search needs
 
--- src/leaves.rt:68:20
 add-t15 : tie.Need-add-t15
 add-t15 c = search needs
 
--- src/leaves.rt:70:19
 enum-known-end : tie.Need-enum-known-end
 enum-known-end c = search needs
 
--- src/leaves.rt:71:21
 add-j : tie.Need-add-j
 add-j c = search needs
 
--- src/leaves.rt:72:47
 sub-payload-is-text : tie.Need-sub-payload-is-text
 sub-payload-is-text c = let f = laws.str-run (c .before .before .before .before .before .args .bytes .now) (c .before .before .before .before .before .args .i) (c .before .before .before .before .before .args .p) (c .before .before .before .before .before .args .b) (c .before .before .before .before .before .args .at) (c .before .before .before .before .before .pre) (c .before .before .before .find-run .result) (c .before .before .before .find-run .ensures) _ _ (c .before .end .given .1) in omega (arith, f .low)
 
--- src/leaves.rt:72:47
 part-payload-is-text-start : tie.Need-part-payload-is-text-start
 part-payload-is-text-start c = let f = laws.str-run (c .before .before .before .before .before .args .bytes .now) (c .before .before .before .before .before .args .i) (c .before .before .before .before .before .args .p) (c .before .before .before .before .before .args .b) (c .before .before .before .before .before .args .at) (c .before .before .before .before .before .pre) (c .before .before .before .find-run .result) (c .before .before .before .find-run .ensures) _ _ (c .before .end .given .1) in omega (arith, f .low)
 
--- src/leaves.rt:72:47
 part-payload-is-text-end : tie.Need-part-payload-is-text-end
 part-payload-is-text-end c = let f = laws.str-run (c .before .before .before .before .before .args .bytes .now) (c .before .before .before .before .before .args .i) (c .before .before .before .before .before .args .p) (c .before .before .before .before .before .args .b) (c .before .before .before .before .before .args .at) (c .before .before .before .before .before .pre) (c .before .before .before .find-run .result) (c .before .before .before .find-run .ensures) _ _ (c .before .end .given .1) in omega (arith, f .within)
 
--- src/leaves.rt:72:17
 payload-is-text-requires : tie.Need-payload-is-text-requires
 payload-is-text-requires c κs = let f = laws.str-run (c .before .before .before .before .before .before .args .bytes .now) (c .before .before .before .before .before .before .args .i) (c .before .before .before .before .before .before .args .p) (c .before .before .before .before .before .before .args .b) (c .before .before .before .before .before .before .args .at) (c .before .before .before .before .before .before .pre) (c .before .before .before .before .find-run .result) (c .before .before .before .before .find-run .ensures) _ _ (c .before .before .end .given .1) in f .long
 
--- src/leaves.rt:76:28
 add-t22 : tie.Need-add-t22
 add-t22 c = search needs
 
--- src/leaves.rt:73:17
 returns : tie.Need-returns
 returns c = laws.str-not (c .before .before .before .before .before .before .before .before .args .bytes .now) (c .before .before .before .before .before .before .before .before .args .i) (c .before .before .before .before .before .before .before .before .args .p) (c .before .before .before .before .before .before .before .before .args .b) (c .before .before .before .before .before .before .before .before .args .at) (c .before .before .before .before .before .before .before .before .pre) (c .before .before .before .before .before .before .find-run .result) (c .before .before .before .before .before .before .find-run .ensures) _ _ (c .before .before .before .before .end .given .1) (c .before .payload-is-text .result) (c .before .payload-is-text .ensures) (not-true _ (c .if1 .taken))
 
--- src/leaves.rt:79:24
 add-next : tie.Need-add-next
 add-next c = let f = laws.str-run (c .before .before .before .before .before .before .before .before .args .bytes .now) (c .before .before .before .before .before .before .before .before .args .i) (c .before .before .before .before .before .before .before .before .args .p) (c .before .before .before .before .before .before .before .before .args .b) (c .before .before .before .before .before .before .before .before .args .at) (c .before .before .before .before .before .before .before .before .pre) (c .before .before .before .before .before .before .find-run .result) (c .before .before .before .before .before .before .find-run .ensures) _ _ (c .before .before .before .before .end .given .1) in omega (arith, f .within)
 
--- src/leaves.rt:80:22
 add-p1 : tie.Need-add-p1
 add-p1 c = let f = laws.str-run (c .before .before .before .before .before .before .before .before .args .bytes .now) (c .before .before .before .before .before .before .before .before .args .i) (c .before .before .before .before .before .before .before .before .args .p) (c .before .before .before .before .before .before .before .before .args .b) (c .before .before .before .before .before .before .before .before .args .at) (c .before .before .before .before .before .before .before .before .pre) (c .before .before .before .before .before .before .find-run .result) (c .before .before .before .before .before .before .find-run .ensures) _ _ (c .before .before .before .before .end .given .1) in omega (arith, f .low, f .within, c .before .before .before .before .before .before .before .before .pre .pool)
 
--- src/leaves.rt:85:24
 add-t18 : tie.Need-add-t18
 add-t18 c = search needs
 
--- src/leaves.rt:60:1
 returns-2 : tie.Need-returns-2
 returns-2 c = laws.str-bad (c .before .before .before .before .before .args .bytes .now) (c .before .before .before .before .before .args .i) (c .before .before .before .before .before .args .p) (c .before .before .before .before .before .args .b) (c .before .before .before .before .before .args .at) (c .before .before .before .before .before .pre) (c .before .before .before .find-run .result) (c .before .before .before .find-run .ensures) _ _ (c .before .no .given .1)
 
--- src/leaves.rt:60:1
 returns-3 : tie.Need-returns-3
 returns-3 c = laws.str-good (c .before .before .before .before .before .before .before .before .args .bytes .now) (c .before .before .before .before .before .before .before .before .args .i) (c .before .before .before .before .before .before .before .before .args .p) (c .before .before .before .before .before .before .before .before .args .b) (c .before .before .before .before .before .before .before .before .args .at) (c .before .before .before .before .before .before .before .before .pre) (c .before .before .before .before .before .before .find-run .result) (c .before .before .before .before .before .before .find-run .ensures) _ _ (c .before .before .before .before .end .given .1) (c .before .payload-is-text .result) (c .before .payload-is-text .ensures) (not-false _ (c .if1 .left))
 

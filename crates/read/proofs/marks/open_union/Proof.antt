@@ -3,68 +3,49 @@ use native.Mathlib.Omega.{arith}
 use Rattle.read.proofs.MarkLaws as laws
 use Rattle.read.proofs.marks.open_union.Statement.{statement}
 use Rattle.read.proofs.marks.open_union.Tie as tie
-use Rattle.read.proofs.marks.open_union.Reads as reads
-use Rattle.read.proofs.marks.open_union.Lts as lts
-use Rattle.read.proofs.marks.wide.Reads as wide-reads
-use Rattle.scalar.proofs.get_u64.Reads as get-u64-reads
 
--- src/marks.rt:68:9
 returns : tie.Need-returns
 returns c = search laws.union-eof
 
--- src/marks.rt:70:16
 shared-slice-read-mark : tie.Need-shared-slice-read-mark
 shared-slice-read-mark c = search needs
 
--- src/marks.rt:72:54
 wide-requires : tie.Need-wide-requires
 wide-requires c κs = search needs
 
--- src/marks.rt:72:9
 returns-2 : tie.Need-returns-2
 returns-2 c = search laws.union-mark
 
--- src/marks.rt:74:13
 add-j : tie.Need-add-j
 add-j c = search needs
 
--- src/marks.rt:75:27
 sub-get-u64 : tie.Need-sub-get-u64
 sub-get-u64 c = search needs
 
--- src/marks.rt:75:27
 part-get-u64-start : tie.Need-part-get-u64-start
 part-get-u64-start c = search needs
 
--- src/marks.rt:75:27
 part-get-u64-end : tie.Need-part-get-u64-end
 part-get-u64-end c = search needs
 
--- src/marks.rt:75:11
 get-u64-requires : tie.Need-get-u64-requires
 get-u64-requires c κs = search needs
 
--- src/marks.rt:76:25
 enum-known-no : tie.Need-enum-known-no
 enum-known-no c = search needs
 
--- src/marks.rt:77:23
 enum-known-tag : tie.Need-enum-known-tag
 enum-known-tag c = search needs
 
--- src/marks.rt:79:17
 returns-3 : tie.Need-returns-3
 returns-3 c = search laws.union-deep
 
--- src/marks.rt:81:24
 add-next : tie.Need-add-next
 add-next c = let s = c .before .before .before .before .before .before .before .before .before .before in let a = s .args in omega (arith, laws.union-within (a .bytes .now) (a .i) (a .depth) (c .before .before .before .before .before .before .before .before .if1 .left) (c .before .before .before .before .before .before .if2 .left) (c .before .before .before .before .get-u64 .result) (c .before .before .before .before .get-u64 .ensures) _ _ (c .before .before .tag .given .1))
 
--- src/marks.rt:64:1
 returns-4 : tie.Need-returns-4
 returns-4 c = search laws.union-tag
 
--- src/marks.rt:64:1
 returns-5 : tie.Need-returns-5
 returns-5 c = search laws.union-open
 

@@ -4,19 +4,13 @@ use mathlib.Core.Path.{_≡_}
 use native.Mathlib.Omega.{arith}
 use Rattle.read.proofs.values.union_end.Statement.{statement}
 use Rattle.read.proofs.values.union_end.Tie as tie
-use Rattle.read.proofs.values.union_end.Reads as reads
-use Rattle.read.proofs.values.union_end.Lts as lts
-use Rattle.sheet.proofs.skip_alternatives.Reads as skip-alternatives-reads
 
--- src/values.rt:34:9
 skip-alternatives-requires : tie.Need-skip-alternatives-requires
 skip-alternatives-requires c κs = search needs
 
--- src/values.rt:34:9
 returns : tie.Need-returns
 returns c = search needs
 
--- src/values.rt:30:1
 returns-2 : tie.Need-returns-2
 returns-2 c = λ h. absurd (let z : _≡_ {A = ℕ} 0 1 = cc in omega arith)
 

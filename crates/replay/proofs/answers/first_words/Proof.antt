@@ -4,18 +4,13 @@ use lib.Seq.{length-take-le}
 use borrow.Author.Needs.{needs}
 use Rattle.replay.proofs.answers.first_words.Statement.{statement}
 use Rattle.replay.proofs.answers.first_words.Tie as tie
-use Rattle.replay.proofs.answers.first_words.Reads as reads
-use Rattle.replay.proofs.answers.first_words.Lts as lts
 
--- src/answers.rt:76:9
 slice-aggregate-result : tie.Need-slice-aggregate-result
 slice-aggregate-result c = let a = c .before .before .args in sym (length-take-le (a .n) (a .s .now) (omega (arith, c .before .if1 .taken)))
 
--- src/answers.rt:76:9
 returns : tie.Need-returns
 returns c = search needs
 
--- src/answers.rt:74:1
 returns-2 : tie.Need-returns-2
 returns-2 c = search needs
 

@@ -4,19 +4,13 @@ use lib.Seq.{length-take-le}
 use borrow.Author.Needs.{needs}
 use Rattle.replay.proofs.answers.room.Statement.{statement}
 use Rattle.replay.proofs.answers.room.Tie as tie
-use Rattle.replay.proofs.answers.room.Reads as reads
-use Rattle.replay.proofs.answers.room.Lts as lts
-use Rattle.replay.proofs.answers.size.Reads as size-reads
 
--- src/answers.rt:24:9
 size-requires : tie.Need-size-requires
 size-requires c κs = search needs
 
--- src/answers.rt:21:1
 returns : tie.Need-returns
 returns c = let a = c .before .before .before .before .args in (omega (arith, c .if1 .taken), sym (length-take-le _ (a .buf .now) (omega (arith, c .if1 .taken))))
 
--- src/answers.rt:21:1
 returns-2 : tie.Need-returns-2
 returns-2 c = let a = c .before .before .before .before .args in (omega arith, sym (length-take-le _ (a .buf .now) (omega arith)))
 

@@ -3,8 +3,6 @@ use Prim.Native.Nat.{_-_, _≤_}
 use lib.ListN.{length}
 use Rattle.replay.proofs.answers.untouched.Statement.{statement}
 use Rattle.replay.proofs.answers.untouched.Tie as tie
-use Rattle.replay.proofs.answers.untouched.Reads as reads
-use Rattle.replay.proofs.answers.untouched.Lts as lts
 
 abbrev Inv-loop : tie.InvT-loop
 Inv-loop buf from all₀ i₀ all i = i ≤ length buf
@@ -12,27 +10,21 @@ Inv-loop buf from all₀ i₀ all i = i ≤ length buf
 abbrev μ-loop : tie.MeasureT-loop
 μ-loop buf from all₀ i₀ all i = length buf - i
 
--- src/answers.rt:48:5
 loop-holds : tie.Need-loop-holds Inv-loop μ-loop
 loop-holds c = search needs
 
--- src/answers.rt:50:16
 shared-slice-read-if2 : tie.Need-shared-slice-read-if2 Inv-loop μ-loop
 shared-slice-read-if2 c = search needs
 
--- src/answers.rt:54:9
 add-i : tie.Need-add-i Inv-loop μ-loop
 add-i c = search needs
 
--- src/answers.rt:48:5
 loop-less : tie.Need-loop-less Inv-loop μ-loop
 loop-less c = search needs
 
--- src/answers.rt:48:5
 loop-again : tie.Need-loop-again Inv-loop μ-loop
 loop-again c = search needs
 
--- src/answers.rt:45:1
 returns : tie.Need-returns Inv-loop μ-loop
 returns c = search needs
 

@@ -5,12 +5,6 @@ use Prim.Native.Nat.{_+_, _-_}
 use lib.ListN.{length}
 use Rattle.replay.proofs.reading.run.Statement.{statement}
 use Rattle.replay.proofs.reading.run.Tie as tie
-use Rattle.replay.proofs.reading.run.Reads as reads
-use Rattle.replay.proofs.reading.run.Lts as lts
-use Rattle.replay.proofs.reading.counted.Reads as counted-reads
-use Rattle.replay.proofs.reading.first.Reads as first-reads
-use Rattle.replay.proofs.reading.keep.Reads as keep-reads
-use Rattle.tuple.proofs.reader.tuple_chars_next.Reads as tuple-chars-next-reads
 
 abbrev Inv-loop : tie.InvT-loop
 Inv-loop bytes codes₀ count₀ refusal₀ at₀ i₀ done₀ codes count refusal at i done = length codes ≡ length codes₀
@@ -18,43 +12,33 @@ Inv-loop bytes codes₀ count₀ refusal₀ at₀ i₀ done₀ codes count refus
 abbrev μ-loop : tie.MeasureT-loop
 μ-loop bytes codes₀ count₀ refusal₀ at₀ i₀ done₀ codes count refusal at i done = (length bytes + 1) - i
 
--- src/reading.rt:64:5
 loop-holds : tie.Need-loop-holds Inv-loop μ-loop
 loop-holds c = search needs
 
--- src/reading.rt:65:13
 tuple-chars-next-requires : tie.Need-tuple-chars-next-requires Inv-loop μ-loop
 tuple-chars-next-requires c κs = search needs
 
--- src/reading.rt:66:9
 keep-requires : tie.Need-keep-requires Inv-loop μ-loop
 keep-requires c κs = search needs
 
--- src/reading.rt:67:9
 counted-requires : tie.Need-counted-requires Inv-loop μ-loop
 counted-requires c κs = search needs
 
--- src/reading.rt:68:9
 first-requires : tie.Need-first-requires Inv-loop μ-loop
 first-requires c κs = search needs
 
--- src/reading.rt:71:9
 add-i : tie.Need-add-i Inv-loop μ-loop
 add-i c = search needs
 
--- src/reading.rt:64:5
 loop-less : tie.Need-loop-less Inv-loop μ-loop
 loop-less c = search needs
 
--- src/reading.rt:64:5
 loop-again : tie.Need-loop-again Inv-loop μ-loop
 loop-again c = search needs
 
--- src/reading.rt:58:1
 same-length : tie.Need-same-length Inv-loop μ-loop
 same-length c = search needs
 
--- src/reading.rt:58:1
 returns : tie.Need-returns Inv-loop μ-loop
 returns c = search needs
 

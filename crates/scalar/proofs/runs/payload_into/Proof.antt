@@ -6,32 +6,22 @@ use Rattle.scalar.proofs.Escapes.{unescape-same}
 use borrow.Author.Needs.{needs}
 use Rattle.scalar.proofs.runs.payload_into.Statement.{statement}
 use Rattle.scalar.proofs.runs.payload_into.Tie as tie
-use Rattle.scalar.proofs.runs.payload_into.Reads as reads
-use Rattle.scalar.proofs.runs.payload_into.Lts as lts
-use Rattle.blocks.proofs.copy_to.Reads as copy-to-reads
-use Rattle.scalar.proofs.runs.unescape_into.Reads as unescape-into-reads
 
--- src/runs.rt:116:9
 copy-to-requires : tie.Need-copy-to-requires
 copy-to-requires c κs = search needs
 
--- src/runs.rt:118:9
 unescape-into-requires : tie.Need-unescape-into-requires
 unescape-into-requires c κs = search needs
 
--- src/runs.rt:111:1
 same-length : tie.Need-same-length
 same-length c = search needs
 
--- src/runs.rt:111:1
 returns : tie.Need-returns
 returns c = let a = c .before .before .before .before .before .before .before .args in rw (unescape-same (a .run .now) (sym (c .before .before .before .before .before .before .before .pre .0) ∙ c .before .before .before .before .if1 .taken)) (c .before .before .copy-to .ensures ∙ ap (λ x. put (a .dst .now) (a .at) x) (take-all (a .n) (a .run .now) (omega (arith, c .before .before .before .before .if1 .taken))))
 
--- src/runs.rt:111:1
 same-length-2 : tie.Need-same-length-2
 same-length-2 c = search needs
 
--- src/runs.rt:111:1
 returns-2 : tie.Need-returns-2
 returns-2 c = search needs
 

@@ -7,12 +7,6 @@ use Rattle.sheet.proofs.TypeWalk.{inside}
 use Rattle.sheet.proofs.AltWalk.{Left, no-union, no-count, past-rows, none-left, no-pair, picked, no-end, go-on}
 use Rattle.sheet.proofs.alternatives.alternative.Statement.{statement}
 use Rattle.sheet.proofs.alternatives.alternative.Tie as tie
-use Rattle.sheet.proofs.alternatives.alternative.Reads as reads
-use Rattle.sheet.proofs.alternatives.alternative.Lts as lts
-use Rattle.sheet.proofs.alternatives.wide.Reads as wide-reads
-use Rattle.sheet.proofs.rows.flat_end.Reads as flat-end-reads
-use Rattle.sheet.proofs.rows.plain_rows.Reads as plain-rows-reads
-use Rattle.sheet.proofs.types.type_end.Reads as type-end-reads
 
 abbrev Inv-loop : tie.InvT-loop
 Inv-loop ty at tag count rows left₀ place₀ left place = Left ty at tag left place × (place ≤ length ty)
@@ -20,131 +14,99 @@ Inv-loop ty at tag count rows left₀ place₀ left place = Left ty at tag left 
 abbrev μ-loop : tie.MeasureT-loop
 μ-loop ty at tag count rows left₀ place₀ left place = left
 
--- src/alternatives.rt:26:9
 returns : tie.Need-returns Inv-loop μ-loop
 returns c = search no-union
 
--- src/alternatives.rt:28:8
 sub-if2 : tie.Need-sub-if2 Inv-loop μ-loop
 sub-if2 c = search needs
 
--- src/alternatives.rt:29:9
 returns-2 : tie.Need-returns-2 Inv-loop μ-loop
 returns-2 c = search no-count
 
--- src/alternatives.rt:31:20
 add-count : tie.Need-add-count Inv-loop μ-loop
 add-count c = search needs
 
--- src/alternatives.rt:31:17
 mul-count : tie.Need-mul-count Inv-loop μ-loop
 mul-count c = search needs
 
--- src/alternatives.rt:31:17
 shared-slice-read-count : tie.Need-shared-slice-read-count Inv-loop μ-loop
 shared-slice-read-count c = search needs
 
--- src/alternatives.rt:32:31
 add-plain-rows : tie.Need-add-plain-rows Inv-loop μ-loop
 add-plain-rows c = search needs
 
--- src/alternatives.rt:32:9
 plain-rows-requires : tie.Need-plain-rows-requires Inv-loop μ-loop
 plain-rows-requires c κs = omega arith
 
--- src/alternatives.rt:33:20
 sub-left : tie.Need-sub-left Inv-loop μ-loop
 sub-left c = omega (arith, c .plain-rows .ensures .few)
 
--- src/alternatives.rt:34:21
 add-place : tie.Need-add-place Inv-loop μ-loop
 add-place c = omega (arith, c .plain-rows .ensures .inside)
 
--- src/alternatives.rt:34:35
 cast-place : tie.Need-cast-place Inv-loop μ-loop
 cast-place c = search needs
 
--- src/alternatives.rt:34:30
 mul-place : tie.Need-mul-place Inv-loop μ-loop
 mul-place c = omega (arith, c .plain-rows .ensures .inside)
 
--- src/alternatives.rt:34:21
 add-place-2 : tie.Need-add-place-2 Inv-loop μ-loop
 add-place-2 c = omega (arith, c .plain-rows .ensures .inside)
 
--- src/alternatives.rt:35:5
 loop-holds : tie.Need-loop-holds Inv-loop μ-loop
 loop-holds c = (search past-rows, omega (arith, c .plain-rows .ensures .inside))
 
--- src/alternatives.rt:36:12
 sub-if3 : tie.Need-sub-if3 Inv-loop μ-loop
 sub-if3 c = c .before .loop .inv .1
 
--- src/alternatives.rt:37:13
 returns-3 : tie.Need-returns-3 Inv-loop μ-loop
 returns-3 c = let inv = c .before .before .loop .inv .0 in search no-pair
 
--- src/alternatives.rt:39:22
 add-inside : tie.Need-add-inside Inv-loop μ-loop
 add-inside c = search needs
 
--- src/alternatives.rt:40:17
 mul-wide : tie.Need-mul-wide Inv-loop μ-loop
 mul-wide c = search needs
 
--- src/alternatives.rt:40:17
 shared-slice-read-wide : tie.Need-shared-slice-read-wide Inv-loop μ-loop
 shared-slice-read-wide c = search needs
 
--- src/alternatives.rt:40:12
 wide-requires : tie.Need-wide-requires Inv-loop μ-loop
 wide-requires c κs = search needs
 
--- src/alternatives.rt:43:23
 sub-t22 : tie.Need-sub-t22 Inv-loop μ-loop
 sub-t22 c = search needs
 
--- src/alternatives.rt:41:13
 returns-4 : tie.Need-returns-4 Inv-loop μ-loop
 returns-4 c = let inv = c .before .before .before .before .before .loop .inv .0 in search picked
 
--- src/alternatives.rt:46:13
 flat-end-requires : tie.Need-flat-end-requires Inv-loop μ-loop
 flat-end-requires c κs = omega arith
 
--- src/alternatives.rt:49:13
 sub-left-2 : tie.Need-sub-left-2 Inv-loop μ-loop
 sub-left-2 c = search needs
 
--- src/alternatives.rt:35:5
 loop-less : tie.Need-loop-less Inv-loop μ-loop
 loop-less c = search needs
 
--- src/alternatives.rt:35:5
 loop-again : tie.Need-loop-again Inv-loop μ-loop
 loop-again c = (go-on (c .before .before .before .before .before .before .before .before .before .before .before .before .before .args .ty .now) (c .before .before .before .before .before .before .before .before .before .before .before .before .before .args .at) (c .before .before .before .before .before .before .before .before .before .before .before .before .before .args .tag) (c .before .before .before .before .before .before .before .loop .left) (c .before .before .before .before .before .before .before .loop .place) (c .before .before .before .before .before .before .before .loop .inv .0) (c .before .before .before .before .before .before .loop-test .taken) (c .before .flat-end .result) (c .before .flat-end .ensures (c .if5 .taken)) (c .before .before .before .wide .result) (c .before .before .before .wide .ensures) (c .before .before .if4 .left), inside (c .before .before .before .before .before .before .before .before .before .before .before .before .before .args .ty .now) (c .before .before .before .before .before .before .before .loop .place + 1 + 1) (c .before .flat-end .result) (typeAt 320 (drop (c .before .before .before .before .before .before .before .loop .place + 1) (c .before .before .before .before .before .before .before .before .before .before .before .before .before .args .ty .now))) (c .before .flat-end .ensures (c .if5 .taken)))
 
--- src/alternatives.rt:51:13
 type-end-requires : tie.Need-type-end-requires Inv-loop μ-loop
 type-end-requires c κs = search needs
 
--- src/alternatives.rt:53:17
 returns-5 : tie.Need-returns-5 Inv-loop μ-loop
 returns-5 c = let inv = c .before .before .before .before .before .before .before .before .before .loop .inv .0 in search no-end
 
--- src/alternatives.rt:55:13
 sub-left-3 : tie.Need-sub-left-3 Inv-loop μ-loop
 sub-left-3 c = search needs
 
--- src/alternatives.rt:35:5
 loop-less-2 : tie.Need-loop-less-2 Inv-loop μ-loop
 loop-less-2 c = search needs
 
--- src/alternatives.rt:35:5
 loop-again-2 : tie.Need-loop-again-2 Inv-loop μ-loop
 loop-again-2 c = (go-on (c .before .before .before .before .before .before .before .before .before .before .before .before .before .before .before .args .ty .now) (c .before .before .before .before .before .before .before .before .before .before .before .before .before .before .before .args .at) (c .before .before .before .before .before .before .before .before .before .before .before .before .before .before .before .args .tag) (c .before .before .before .before .before .before .before .before .before .loop .left) (c .before .before .before .before .before .before .before .before .before .loop .place) (c .before .before .before .before .before .before .before .before .before .loop .inv .0) (c .before .before .before .before .before .before .before .before .loop-test .taken) (c .before .type-end .result) (c .before .type-end .ensures) (c .before .before .before .before .before .wide .result) (c .before .before .before .before .before .wide .ensures) (c .before .before .before .before .if4 .left), inside (c .before .before .before .before .before .before .before .before .before .before .before .before .before .before .before .args .ty .now) (c .before .before .before .before .before .before .before .before .before .loop .place + 1 + 1) (c .before .type-end .result) (typeAt 320 (drop (c .before .before .before .before .before .before .before .before .before .loop .place + 1) (c .before .before .before .before .before .before .before .before .before .before .before .before .before .before .before .args .ty .now))) (c .before .type-end .ensures))
 
--- src/alternatives.rt:22:1
 returns-6 : tie.Need-returns-6 Inv-loop μ-loop
 returns-6 c = let inv = c .before .loop .inv .0 in search none-left
 

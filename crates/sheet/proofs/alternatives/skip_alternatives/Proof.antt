@@ -2,9 +2,6 @@ use Rattle.sheet.proofs.EndLaws.{alts-end-is}
 use borrow.Author.Needs.{needs}
 use Rattle.sheet.proofs.alternatives.skip_alternatives.Statement.{statement}
 use Rattle.sheet.proofs.alternatives.skip_alternatives.Tie as tie
-use Rattle.sheet.proofs.alternatives.skip_alternatives.Reads as reads
-use Rattle.sheet.proofs.alternatives.skip_alternatives.Lts as lts
-use Rattle.sheet.proofs.types.alternatives_end.Reads as alternatives-end-reads
 
 returns : tie.Need-returns
 returns c = search needs

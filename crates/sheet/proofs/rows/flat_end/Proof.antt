@@ -5,84 +5,61 @@ use Rattle.sheet.proofs.TypeWalk.{scalar, plain-record}
 use borrow.Author.Needs.{needs}
 use Rattle.sheet.proofs.rows.flat_end.Statement.{statement}
 use Rattle.sheet.proofs.rows.flat_end.Tie as tie
-use Rattle.sheet.proofs.rows.flat_end.Reads as reads
-use Rattle.sheet.proofs.rows.flat_end.Lts as lts
-use Rattle.sheet.proofs.rows.plain.Reads as plain-reads
-use Rattle.sheet.proofs.rows.plain_types.Reads as plain-types-reads
 
--- src/rows.rt:46:16
 mul-kind : tie.Need-mul-kind
 mul-kind c = search needs
 
--- src/rows.rt:46:16
 shared-slice-read-kind : tie.Need-shared-slice-read-kind
 shared-slice-read-kind c = search needs
 
--- src/rows.rt:47:8
 plain-requires : tie.Need-plain-requires
 plain-requires c κs = search needs
 
--- src/rows.rt:48:16
 add-result : tie.Need-add-result
 add-result c = search needs
 
--- src/rows.rt:48:9
 returns : tie.Need-returns
 returns c = λ z. let p = c .before .plain .ensures (c .if1 .taken) in scalar (c .before .before .before .before .args .ty .now) (c .before .before .before .before .args .at) (c .before .before .before .before .args .groups) (c .before .before .before .before .pre) (λ y. omega (arith, p .0)) (p .1)
 
--- src/rows.rt:51:9
 returns-2 : tie.Need-returns-2
 returns-2 c = λ z. absurd (z refl)
 
--- src/rows.rt:54:9
 returns-3 : tie.Need-returns-3
 returns-3 c = λ z. absurd (z refl)
 
--- src/rows.rt:56:8
 sub-if4 : tie.Need-sub-if4
 sub-if4 c = search needs
 
--- src/rows.rt:57:9
 returns-4 : tie.Need-returns-4
 returns-4 c = λ z. absurd (z refl)
 
--- src/rows.rt:59:20
 add-count : tie.Need-add-count
 add-count c = search needs
 
--- src/rows.rt:59:17
 mul-count : tie.Need-mul-count
 mul-count c = search needs
 
--- src/rows.rt:59:17
 shared-slice-read-count : tie.Need-shared-slice-read-count
 shared-slice-read-count c = search needs
 
--- src/rows.rt:60:24
 add-plain-types : tie.Need-add-plain-types
 add-plain-types c = search needs
 
--- src/rows.rt:60:8
 plain-types-requires : tie.Need-plain-types-requires
 plain-types-requires c κs = search needs
 
--- src/rows.rt:61:16
 add-result-2 : tie.Need-add-result-2
 add-result-2 c = search needs
 
--- src/rows.rt:61:25
 cast-result : tie.Need-cast-result
 cast-result c = let k = c .before .before .shared-slice-known3 .given (c .before .before .before .before .before .before .before .before .before .before .args .at + 1) in search needs
 
--- src/rows.rt:61:16
 add-result-3 : tie.Need-add-result-3
 add-result-3 c = omega (arith, c .before .plain-types .ensures (c .if5 .taken) .inside)
 
--- src/rows.rt:61:9
 returns-5 : tie.Need-returns-5
 returns-5 c = λ z. plain-record (c .before .before .before .before .before .before .before .before .before .before .args .ty .now) (c .before .before .before .before .before .before .before .before .before .before .args .at) (c .before .before .before .before .before .before .before .before .before .before .args .groups) (omega arith) (omega (arith, c .before .before .before .before .before .if2 .left)) (c .before .before .before .before .if3 .left) (c .before .before .before .before .before .if2 .left) (c .before .plain-types .ensures (c .if5 .taken))
 
--- src/rows.rt:42:1
 returns-6 : tie.Need-returns-6
 returns-6 c = λ z. absurd (z refl)
 

@@ -79,83 +79,63 @@ alternatives-end-Inv-loop ty at count groups rows left₀ place₀ left place = 
 abbrev alternatives-end-μ-loop : alternatives-end-lts.MeasureT-loop
 alternatives-end-μ-loop ty at count groups rows left₀ place₀ left place = left
 
--- src/types.rt:112:9
 alternatives-end-plain-rows-requires : (t : ℕ) → alternatives-end-lts.Need-plain-rows-requires (plain-rows-reads.Asked, plain-rows-reads.Learnt, flat-end-reads.Asked, flat-end-reads.Learnt, type-end-below t, type-end.Post) (alternatives-end-at t) alternatives-end.Post alternatives-end-Inv-loop alternatives-end-μ-loop
 alternatives-end-plain-rows-requires t c κs = omega arith
 
--- src/types.rt:113:20
 alternatives-end-sub-left : (t : ℕ) → alternatives-end-lts.Need-sub-left (plain-rows-reads.Asked, plain-rows-reads.Learnt, flat-end-reads.Asked, flat-end-reads.Learnt, type-end-below t, type-end.Post) (alternatives-end-at t) alternatives-end.Post alternatives-end-Inv-loop alternatives-end-μ-loop
 alternatives-end-sub-left t c = omega (arith, c .plain-rows .ensures .few)
 
--- src/types.rt:114:31
 alternatives-end-cast-place : (t : ℕ) → alternatives-end-lts.Need-cast-place (plain-rows-reads.Asked, plain-rows-reads.Learnt, flat-end-reads.Asked, flat-end-reads.Learnt, type-end-below t, type-end.Post) (alternatives-end-at t) alternatives-end.Post alternatives-end-Inv-loop alternatives-end-μ-loop
 alternatives-end-cast-place t c = search needs
 
--- src/types.rt:114:26
 alternatives-end-mul-place : (t : ℕ) → alternatives-end-lts.Need-mul-place (plain-rows-reads.Asked, plain-rows-reads.Learnt, flat-end-reads.Asked, flat-end-reads.Learnt, type-end-below t, type-end.Post) (alternatives-end-at t) alternatives-end.Post alternatives-end-Inv-loop alternatives-end-μ-loop
 alternatives-end-mul-place t c = omega (arith, c .plain-rows .ensures .inside)
 
--- src/types.rt:114:21
 alternatives-end-add-place : (t : ℕ) → alternatives-end-lts.Need-add-place (plain-rows-reads.Asked, plain-rows-reads.Learnt, flat-end-reads.Asked, flat-end-reads.Learnt, type-end-below t, type-end.Post) (alternatives-end-at t) alternatives-end.Post alternatives-end-Inv-loop alternatives-end-μ-loop
 alternatives-end-add-place t c = omega (arith, c .plain-rows .ensures .inside)
 
--- src/types.rt:115:5
 alternatives-end-loop-holds : (t : ℕ) → alternatives-end-lts.Need-loop-holds (plain-rows-reads.Asked, plain-rows-reads.Learnt, flat-end-reads.Asked, flat-end-reads.Learnt, type-end-below t, type-end.Post) (alternatives-end-at t) alternatives-end.Post alternatives-end-Inv-loop alternatives-end-μ-loop
 alternatives-end-loop-holds t c = search rows-start
 
--- src/types.rt:116:12
 alternatives-end-sub-if1 : (t : ℕ) → alternatives-end-lts.Need-sub-if1 (plain-rows-reads.Asked, plain-rows-reads.Learnt, flat-end-reads.Asked, flat-end-reads.Learnt, type-end-below t, type-end.Post) (alternatives-end-at t) alternatives-end.Post alternatives-end-Inv-loop alternatives-end-μ-loop
 alternatives-end-sub-if1 t c = search needs
 
--- src/types.rt:117:13
 alternatives-end-returns : (t : ℕ) → alternatives-end-lts.Need-returns (plain-rows-reads.Asked, plain-rows-reads.Learnt, flat-end-reads.Asked, flat-end-reads.Learnt, type-end-below t, type-end.Post) (alternatives-end-at t) alternatives-end.Post alternatives-end-Inv-loop alternatives-end-μ-loop
 alternatives-end-returns t c = search alts-short
 
--- src/types.rt:119:33
 alternatives-end-add-flat-end : (t : ℕ) → alternatives-end-lts.Need-add-flat-end (plain-rows-reads.Asked, plain-rows-reads.Learnt, flat-end-reads.Asked, flat-end-reads.Learnt, type-end-below t, type-end.Post) (alternatives-end-at t) alternatives-end.Post alternatives-end-Inv-loop alternatives-end-μ-loop
 alternatives-end-add-flat-end t c = search needs
 
--- src/types.rt:119:13
 alternatives-end-flat-end-requires : (t : ℕ) → alternatives-end-lts.Need-flat-end-requires (plain-rows-reads.Asked, plain-rows-reads.Learnt, flat-end-reads.Asked, flat-end-reads.Learnt, type-end-below t, type-end.Post) (alternatives-end-at t) alternatives-end.Post alternatives-end-Inv-loop alternatives-end-μ-loop
 alternatives-end-flat-end-requires t c κs = omega arith
 
--- src/types.rt:122:13
 alternatives-end-sub-left-2 : (t : ℕ) → alternatives-end-lts.Need-sub-left-2 (plain-rows-reads.Asked, plain-rows-reads.Learnt, flat-end-reads.Asked, flat-end-reads.Learnt, type-end-below t, type-end.Post) (alternatives-end-at t) alternatives-end.Post alternatives-end-Inv-loop alternatives-end-μ-loop
 alternatives-end-sub-left-2 t c = search needs
 
--- src/types.rt:115:5
 alternatives-end-loop-less : (t : ℕ) → alternatives-end-lts.Need-loop-less (plain-rows-reads.Asked, plain-rows-reads.Learnt, flat-end-reads.Asked, flat-end-reads.Learnt, type-end-below t, type-end.Post) (alternatives-end-at t) alternatives-end.Post alternatives-end-Inv-loop alternatives-end-μ-loop
 alternatives-end-loop-less t c = search needs
 
--- src/types.rt:115:5
 alternatives-end-loop-again : (t : ℕ) → alternatives-end-lts.Need-loop-again (plain-rows-reads.Asked, plain-rows-reads.Learnt, flat-end-reads.Asked, flat-end-reads.Learnt, type-end-below t, type-end.Post) (alternatives-end-at t) alternatives-end.Post alternatives-end-Inv-loop alternatives-end-μ-loop
 alternatives-end-loop-again t c = alts-go (c .before .before .before .before .before .before .before .args .ty .now) (c .before .before .before .before .before .before .before .args .at) (c .before .before .before .before .before .before .before .args .count) (c .before .before .before .before .before .before .before .args .groups) (c .before .before .before .before .loop .left) (c .before .before .before .before .loop .place) (c .before .before .before .before .loop .inv) (c .before .before .before .loop-test .taken) (omega arith) (c .before .flat-end .result) (c .before .flat-end .ensures (c .if2 .taken)) (c .if2 .taken)
 
--- src/types.rt:124:34
 alternatives-end-add-type-end : (t : ℕ) → alternatives-end-lts.Need-add-type-end (plain-rows-reads.Asked, plain-rows-reads.Learnt, flat-end-reads.Asked, flat-end-reads.Learnt, type-end-below t, type-end.Post) (alternatives-end-at t) alternatives-end.Post alternatives-end-Inv-loop alternatives-end-μ-loop
 alternatives-end-add-type-end t c = search needs
 
--- src/types.rt:124:13
 alternatives-end-type-end-requires : (t : ℕ) → alternatives-end-lts.Need-type-end-requires (plain-rows-reads.Asked, plain-rows-reads.Learnt, flat-end-reads.Asked, flat-end-reads.Learnt, type-end-below t, type-end.Post) (alternatives-end-at t) alternatives-end.Post alternatives-end-Inv-loop alternatives-end-μ-loop
 alternatives-end-type-end-requires t c κs = (omega arith, tt)
 
--- src/types.rt:126:17
 alternatives-end-returns-2 : (t : ℕ) → alternatives-end-lts.Need-returns-2 (plain-rows-reads.Asked, plain-rows-reads.Learnt, flat-end-reads.Asked, flat-end-reads.Learnt, type-end-below t, type-end.Post) (alternatives-end-at t) alternatives-end.Post alternatives-end-Inv-loop alternatives-end-μ-loop
 alternatives-end-returns-2 t c = let here : c .before .before .before .before .before .before .loop .place < length (c .before .before .before .before .before .before .before .before .before .args .ty .now) = omega arith in search alts-fail
 
--- src/types.rt:128:13
 alternatives-end-sub-left-3 : (t : ℕ) → alternatives-end-lts.Need-sub-left-3 (plain-rows-reads.Asked, plain-rows-reads.Learnt, flat-end-reads.Asked, flat-end-reads.Learnt, type-end-below t, type-end.Post) (alternatives-end-at t) alternatives-end.Post alternatives-end-Inv-loop alternatives-end-μ-loop
 alternatives-end-sub-left-3 t c = search needs
 
--- src/types.rt:115:5
 alternatives-end-loop-less-2 : (t : ℕ) → alternatives-end-lts.Need-loop-less-2 (plain-rows-reads.Asked, plain-rows-reads.Learnt, flat-end-reads.Asked, flat-end-reads.Learnt, type-end-below t, type-end.Post) (alternatives-end-at t) alternatives-end.Post alternatives-end-Inv-loop alternatives-end-μ-loop
 alternatives-end-loop-less-2 t c = search needs
 
--- src/types.rt:115:5
 alternatives-end-loop-again-2 : (t : ℕ) → alternatives-end-lts.Need-loop-again-2 (plain-rows-reads.Asked, plain-rows-reads.Learnt, flat-end-reads.Asked, flat-end-reads.Learnt, type-end-below t, type-end.Post) (alternatives-end-at t) alternatives-end.Post alternatives-end-Inv-loop alternatives-end-μ-loop
 alternatives-end-loop-again-2 t c = let here : c .before .before .before .before .before .before .loop .place < length (c .before .before .before .before .before .before .before .before .before .args .ty .now) = omega arith in search alts-go
 
--- src/types.rt:108:1
 alternatives-end-returns-3 : (t : ℕ) → alternatives-end-lts.Need-returns-3 (plain-rows-reads.Asked, plain-rows-reads.Learnt, flat-end-reads.Asked, flat-end-reads.Learnt, type-end-below t, type-end.Post) (alternatives-end-at t) alternatives-end.Post alternatives-end-Inv-loop alternatives-end-μ-loop
 alternatives-end-returns-3 t c = search alts-done
 
@@ -165,179 +145,139 @@ fields-end-Inv-loop ty at count groups left₀ place₀ deep₀ left place deep 
 abbrev fields-end-μ-loop : fields-end-lts.MeasureT-loop
 fields-end-μ-loop ty at count groups left₀ place₀ deep₀ left place deep = 4096 * deep + left
 
--- src/types.rt:90:5
 fields-end-loop-holds : (t : ℕ) → fields-end-lts.Need-loop-holds (last-record-reads.Asked, last-record-reads.Learnt, type-end-below t, type-end.Post) (fields-end-at t) fields-end.Post fields-end-Inv-loop fields-end-μ-loop
 fields-end-loop-holds t c = search fields-start
 
--- src/types.rt:91:13
 fields-end-last-record-requires : (t : ℕ) → fields-end-lts.Need-last-record-requires (last-record-reads.Asked, last-record-reads.Learnt, type-end-below t, type-end.Post) (fields-end-at t) fields-end.Post fields-end-Inv-loop fields-end-μ-loop
 fields-end-last-record-requires t c κs = search needs
 
--- src/types.rt:93:13
 fields-end-add-place : (t : ℕ) → fields-end-lts.Need-add-place (last-record-reads.Asked, last-record-reads.Learnt, type-end-below t, type-end.Post) (fields-end-at t) fields-end.Post fields-end-Inv-loop fields-end-μ-loop
 fields-end-add-place t c = omega (arith, c .before .last-record .ensures .inside (c .if1 .taken))
 
--- src/types.rt:94:20
 fields-end-sub-left : (t : ℕ) → fields-end-lts.Need-sub-left (last-record-reads.Asked, last-record-reads.Learnt, type-end-below t, type-end.Post) (fields-end-at t) fields-end.Post fields-end-Inv-loop fields-end-μ-loop
 fields-end-sub-left t c = omega (arith, c .if1 .taken)
 
--- src/types.rt:95:13
 fields-end-sub-deep : (t : ℕ) → fields-end-lts.Need-sub-deep (last-record-reads.Asked, last-record-reads.Learnt, type-end-below t, type-end.Post) (fields-end-at t) fields-end.Post fields-end-Inv-loop fields-end-μ-loop
 fields-end-sub-deep t c = omega (arith, c .before .last-record .ensures .last (c .if1 .taken))
 
--- src/types.rt:90:5
 fields-end-loop-less : (t : ℕ) → fields-end-lts.Need-loop-less (last-record-reads.Asked, last-record-reads.Learnt, type-end-below t, type-end.Post) (fields-end-at t) fields-end.Post fields-end-Inv-loop fields-end-μ-loop
 fields-end-loop-less t c = omega (arith, c .before .last-record .ensures .last (c .if1 .taken), c .before .last-record .ensures .small)
 
--- src/types.rt:90:5
 fields-end-loop-again : (t : ℕ) → fields-end-lts.Need-loop-again (last-record-reads.Asked, last-record-reads.Learnt, type-end-below t, type-end.Post) (fields-end-at t) fields-end.Post fields-end-Inv-loop fields-end-μ-loop
 fields-end-loop-again t c = search fields-into
 
--- src/types.rt:97:13
 fields-end-type-end-requires : (t : ℕ) → fields-end-lts.Need-type-end-requires (last-record-reads.Asked, last-record-reads.Learnt, type-end-below t, type-end.Post) (fields-end-at t) fields-end.Post fields-end-Inv-loop fields-end-μ-loop
 fields-end-type-end-requires t c κs = (omega (arith, c .before .before .before .loop .inv .deep), tt)
 
--- src/types.rt:99:17
 fields-end-returns : (t : ℕ) → fields-end-lts.Need-returns (last-record-reads.Asked, last-record-reads.Learnt, type-end-below t, type-end.Post) (fields-end-at t) fields-end.Post fields-end-Inv-loop fields-end-μ-loop
 fields-end-returns t c = search fields-fail
 
--- src/types.rt:101:13
 fields-end-sub-left-2 : (t : ℕ) → fields-end-lts.Need-sub-left-2 (last-record-reads.Asked, last-record-reads.Learnt, type-end-below t, type-end.Post) (fields-end-at t) fields-end.Post fields-end-Inv-loop fields-end-μ-loop
 fields-end-sub-left-2 t c = search needs
 
--- src/types.rt:90:5
 fields-end-loop-less-2 : (t : ℕ) → fields-end-lts.Need-loop-less-2 (last-record-reads.Asked, last-record-reads.Learnt, type-end-below t, type-end.Post) (fields-end-at t) fields-end.Post fields-end-Inv-loop fields-end-μ-loop
 fields-end-loop-less-2 t c = omega arith
 
--- src/types.rt:90:5
 fields-end-loop-again-2 : (t : ℕ) → fields-end-lts.Need-loop-again-2 (last-record-reads.Asked, last-record-reads.Learnt, type-end-below t, type-end.Post) (fields-end-at t) fields-end.Post fields-end-Inv-loop fields-end-μ-loop
 fields-end-loop-again-2 t c = search fields-go
 
--- src/types.rt:83:1
 fields-end-returns-2 : (t : ℕ) → fields-end-lts.Need-returns-2 (last-record-reads.Asked, last-record-reads.Learnt, type-end-below t, type-end.Post) (fields-end-at t) fields-end.Post fields-end-Inv-loop fields-end-μ-loop
 fields-end-returns-2 t c = search fields-done
 
--- src/types.rt:42:9
 group-end-returns : (t : ℕ) → group-end-lts.Need-returns (fields-end-below t, fields-end.Post, alternatives-end-below t, alternatives-end.Post) (group-end-at t) group-end.Post
 group-end-returns t c = search too-deep
 
--- src/types.rt:44:16
 group-end-mul-kind : (t : ℕ) → group-end-lts.Need-mul-kind (fields-end-below t, fields-end.Post, alternatives-end-below t, alternatives-end.Post) (group-end-at t) group-end.Post
 group-end-mul-kind t c = search needs
 
--- src/types.rt:44:16
 group-end-shared-slice-read-kind : (t : ℕ) → group-end-lts.Need-shared-slice-read-kind (fields-end-below t, fields-end.Post, alternatives-end-below t, alternatives-end.Post) (group-end-at t) group-end.Post
 group-end-shared-slice-read-kind t c = search needs
 
--- src/types.rt:45:20
 group-end-add-count : (t : ℕ) → group-end-lts.Need-add-count (fields-end-below t, fields-end.Post, alternatives-end-below t, alternatives-end.Post) (group-end-at t) group-end.Post
 group-end-add-count t c = search needs
 
--- src/types.rt:45:17
 group-end-mul-count : (t : ℕ) → group-end-lts.Need-mul-count (fields-end-below t, fields-end.Post, alternatives-end-below t, alternatives-end.Post) (group-end-at t) group-end.Post
 group-end-mul-count t c = search needs
 
--- src/types.rt:45:17
 group-end-shared-slice-read-count : (t : ℕ) → group-end-lts.Need-shared-slice-read-count (fields-end-below t, fields-end.Post, alternatives-end-below t, alternatives-end.Post) (group-end-at t) group-end.Post
 group-end-shared-slice-read-count t c = search needs
 
--- src/types.rt:47:31
 group-end-add-fields-end : (t : ℕ) → group-end-lts.Need-add-fields-end (fields-end-below t, fields-end.Post, alternatives-end-below t, alternatives-end.Post) (group-end-at t) group-end.Post
 group-end-add-fields-end t c = search needs
 
--- src/types.rt:47:46
 group-end-sub-fields-end : (t : ℕ) → group-end-lts.Need-sub-fields-end (fields-end-below t, fields-end.Post, alternatives-end-below t, alternatives-end.Post) (group-end-at t) group-end.Post
 group-end-sub-fields-end t c = search needs
 
--- src/types.rt:47:9
 group-end-fields-end-requires : (t : ℕ) → group-end-lts.Need-fields-end-requires (fields-end-below t, fields-end.Post, alternatives-end-below t, alternatives-end.Post) (group-end-at t) group-end.Post
 group-end-fields-end-requires t c κs = (omega arith, omega arith)
 
--- src/types.rt:47:9
 group-end-returns-2 : (t : ℕ) → group-end-lts.Need-returns-2 (fields-end-below t, fields-end.Post, alternatives-end-below t, alternatives-end.Post) (group-end-at t) group-end.Post
 group-end-returns-2 t c = search record-end
 
--- src/types.rt:50:37
 group-end-add-alternatives-end : (t : ℕ) → group-end-lts.Need-add-alternatives-end (fields-end-below t, fields-end.Post, alternatives-end-below t, alternatives-end.Post) (group-end-at t) group-end.Post
 group-end-add-alternatives-end t c = search needs
 
--- src/types.rt:50:52
 group-end-sub-alternatives-end : (t : ℕ) → group-end-lts.Need-sub-alternatives-end (fields-end-below t, fields-end.Post, alternatives-end-below t, alternatives-end.Post) (group-end-at t) group-end.Post
 group-end-sub-alternatives-end t c = search needs
 
--- src/types.rt:50:9
 group-end-alternatives-end-requires : (t : ℕ) → group-end-lts.Need-alternatives-end-requires (fields-end-below t, fields-end.Post, alternatives-end-below t, alternatives-end.Post) (group-end-at t) group-end.Post
 group-end-alternatives-end-requires t c κs = (omega arith, omega arith)
 
--- src/types.rt:50:9
 group-end-returns-3 : (t : ℕ) → group-end-lts.Need-returns-3 (fields-end-below t, fields-end.Post, alternatives-end-below t, alternatives-end.Post) (group-end-at t) group-end.Post
 group-end-returns-3 t c = search union-end
 
--- src/types.rt:37:1
 group-end-returns-4 : (t : ℕ) → group-end-lts.Need-returns-4 (fields-end-below t, fields-end.Post, alternatives-end-below t, alternatives-end.Post) (group-end-at t) group-end.Post
 group-end-returns-4 t c = search unknown
 
--- src/types.rt:18:9
 type-end-returns :
     (t : ℕ) →
     type-end-lts.Need-returns (group-end-below t, group-end.Post) (type-end-at t) type-end.Post
 type-end-returns t c = search none-left
 
--- src/types.rt:20:16
 type-end-mul-kind :
     (t : ℕ) →
     type-end-lts.Need-mul-kind (group-end-below t, group-end.Post) (type-end-at t) type-end.Post
 type-end-mul-kind t c = search needs
 
--- src/types.rt:20:16
 type-end-shared-slice-read-kind : (t : ℕ) → type-end-lts.Need-shared-slice-read-kind (group-end-below t, group-end.Post) (type-end-at t) type-end.Post
 type-end-shared-slice-read-kind t c = search needs
 
--- src/types.rt:22:9
 type-end-returns-2 :
     (t : ℕ) →
     type-end-lts.Need-returns-2 (group-end-below t, group-end.Post) (type-end-at t) type-end.Post
 type-end-returns-2 t c = search zero-kind
 
--- src/types.rt:25:16
 type-end-add-result :
     (t : ℕ) →
     type-end-lts.Need-add-result (group-end-below t, group-end.Post) (type-end-at t) type-end.Post
 type-end-add-result t c = search needs
 
--- src/types.rt:25:9
 type-end-returns-3 :
     (t : ℕ) →
     type-end-lts.Need-returns-3 (group-end-below t, group-end.Post) (type-end-at t) type-end.Post
 type-end-returns-3 t c = search scalar
 
--- src/types.rt:27:8
 type-end-sub-if4 :
     (t : ℕ) →
     type-end-lts.Need-sub-if4 (group-end-below t, group-end.Post) (type-end-at t) type-end.Post
 type-end-sub-if4 t c = search needs
 
--- src/types.rt:28:9
 type-end-returns-4 :
     (t : ℕ) →
     type-end-lts.Need-returns-4 (group-end-below t, group-end.Post) (type-end-at t) type-end.Post
 type-end-returns-4 t c = search short
 
--- src/types.rt:31:16
 type-end-add-result-2 : (t : ℕ) → type-end-lts.Need-add-result-2 (group-end-below t, group-end.Post) (type-end-at t) type-end.Post
 type-end-add-result-2 t c = search needs
 
--- src/types.rt:31:9
 type-end-returns-5 :
     (t : ℕ) →
     type-end-lts.Need-returns-5 (group-end-below t, group-end.Post) (type-end-at t) type-end.Post
 type-end-returns-5 t c = search reference
 
--- src/types.rt:33:5
 type-end-group-end-requires : (t : ℕ) → type-end-lts.Need-group-end-requires (group-end-below t, group-end.Post) (type-end-at t) type-end.Post
 type-end-group-end-requires t c κs = (omega arith, (omega arith, omega arith))
 
--- src/types.rt:14:1
 type-end-returns-6 :
     (t : ℕ) →
     type-end-lts.Need-returns-6 (group-end-below t, group-end.Post) (type-end-at t) type-end.Post

@@ -2,9 +2,6 @@ use Rattle.sheet.proofs.AdmitType.{too-long, no-type, is-type}
 use borrow.Author.Needs.{needs}
 use Rattle.sheet.proofs.types.admit_type.Statement.{statement}
 use Rattle.sheet.proofs.types.admit_type.Tie as tie
-use Rattle.sheet.proofs.types.admit_type.Reads as reads
-use Rattle.sheet.proofs.types.admit_type.Lts as lts
-use Rattle.sheet.proofs.types.type_end.Reads as type-end-reads
 
 returns : tie.Need-returns
 returns c = search too-long

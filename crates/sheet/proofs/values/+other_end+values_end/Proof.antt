@@ -37,87 +37,66 @@ abbrev values-end-below : ℕ → In 2 values-end-kinds.ps
 values-end-below t =
     and 2 values-end-kinds.ps (falls 2 values-end-kinds.ps _<_ μ-values-end t) values-end.Pre
 
--- src/values.rt:70:9
 other-end-returns : (t : ℕ) → other-end-lts.Need-returns (run-end-reads.Asked, run-end-reads.Learnt, values-end-below t, values-end.Post) (other-end-at t) other-end.Post
 other-end-returns t c = search none-left
 
--- src/values.rt:72:8
 other-end-sub-if2 : (t : ℕ) → other-end-lts.Need-sub-if2 (run-end-reads.Asked, run-end-reads.Learnt, values-end-below t, values-end.Post) (other-end-at t) other-end.Post
 other-end-sub-if2 t c = search needs
 
--- src/values.rt:73:9
 other-end-returns-2 : (t : ℕ) → other-end-lts.Need-returns-2 (run-end-reads.Asked, run-end-reads.Learnt, values-end-below t, values-end.Post) (other-end-at t) other-end.Post
 other-end-returns-2 t c = search short
 
--- src/values.rt:75:16
 other-end-mul-kind : (t : ℕ) → other-end-lts.Need-mul-kind (run-end-reads.Asked, run-end-reads.Learnt, values-end-below t, values-end.Post) (other-end-at t) other-end.Post
 other-end-mul-kind t c = search needs
 
--- src/values.rt:75:16
 other-end-shared-slice-read-kind : (t : ℕ) → other-end-lts.Need-shared-slice-read-kind (run-end-reads.Asked, run-end-reads.Learnt, values-end-below t, values-end.Post) (other-end-at t) other-end.Post
 other-end-shared-slice-read-kind t c = search needs
 
--- src/values.rt:77:9
 other-end-run-end-requires : (t : ℕ) → other-end-lts.Need-run-end-requires (run-end-reads.Asked, run-end-reads.Learnt, values-end-below t, values-end.Post) (other-end-at t) other-end.Post
 other-end-run-end-requires t c κs = (omega arith, search is-run, omega arith, omega arith)
 
--- src/values.rt:77:9
 other-end-returns-3 : (t : ℕ) → other-end-lts.Need-returns-3 (run-end-reads.Asked, run-end-reads.Learnt, values-end-below t, values-end.Post) (other-end-at t) other-end.Post
 other-end-returns-3 t c = c .run-end .ensures .ends _
 
--- src/values.rt:80:9
 other-end-returns-4 : (t : ℕ) → other-end-lts.Need-returns-4 (run-end-reads.Asked, run-end-reads.Learnt, values-end-below t, values-end.Post) (other-end-at t) other-end.Post
 other-end-returns-4 t c = search too-deep
 
--- src/values.rt:82:22
 other-end-add-more : (t : ℕ) → other-end-lts.Need-add-more (run-end-reads.Asked, run-end-reads.Learnt, values-end-below t, values-end.Post) (other-end-at t) other-end.Post
 other-end-add-more t c = search needs
 
--- src/values.rt:82:16
 other-end-mul-more : (t : ℕ) → other-end-lts.Need-mul-more (run-end-reads.Asked, run-end-reads.Learnt, values-end-below t, values-end.Post) (other-end-at t) other-end.Post
 other-end-mul-more t c = search needs
 
--- src/values.rt:82:16
 other-end-shared-slice-read-more : (t : ℕ) → other-end-lts.Need-shared-slice-read-more (run-end-reads.Asked, run-end-reads.Learnt, values-end-below t, values-end.Post) (other-end-at t) other-end.Post
 other-end-shared-slice-read-more t c = search needs
 
--- src/values.rt:84:40
 other-end-add-values-end : (t : ℕ) → other-end-lts.Need-add-values-end (run-end-reads.Asked, run-end-reads.Learnt, values-end-below t, values-end.Post) (other-end-at t) other-end.Post
 other-end-add-values-end t c = search needs
 
--- src/values.rt:84:60
 other-end-sub-values-end : (t : ℕ) → other-end-lts.Need-sub-values-end (run-end-reads.Asked, run-end-reads.Learnt, values-end-below t, values-end.Post) (other-end-at t) other-end.Post
 other-end-sub-values-end t c = search needs
 
--- src/values.rt:84:9
 other-end-values-end-requires : (t : ℕ) → other-end-lts.Need-values-end-requires (run-end-reads.Asked, run-end-reads.Learnt, values-end-below t, values-end.Post) (other-end-at t) other-end.Post
 other-end-values-end-requires t c κs = (omega arith, (omega arith, omega arith))
 
--- src/values.rt:84:9
 other-end-returns-5 : (t : ℕ) → other-end-lts.Need-returns-5 (run-end-reads.Asked, run-end-reads.Learnt, values-end-below t, values-end.Post) (other-end-at t) other-end.Post
 other-end-returns-5 t c = search record-end
 
--- src/values.rt:87:9
 other-end-returns-6 : (t : ℕ) → other-end-lts.Need-returns-6 (run-end-reads.Asked, run-end-reads.Learnt, values-end-below t, values-end.Post) (other-end-at t) other-end.Post
 other-end-returns-6 t c = search unknown
 
--- src/values.rt:90:9
 other-end-returns-7 : (t : ℕ) → other-end-lts.Need-returns-7 (run-end-reads.Asked, run-end-reads.Learnt, values-end-below t, values-end.Post) (other-end-at t) other-end.Post
 other-end-returns-7 t c = search big-tag
 
--- src/values.rt:92:29
 other-end-add-values-end-2 : (t : ℕ) → other-end-lts.Need-add-values-end-2 (run-end-reads.Asked, run-end-reads.Learnt, values-end-below t, values-end.Post) (other-end-at t) other-end.Post
 other-end-add-values-end-2 t c = search needs
 
--- src/values.rt:92:46
 other-end-sub-values-end-2 : (t : ℕ) → other-end-lts.Need-sub-values-end-2 (run-end-reads.Asked, run-end-reads.Learnt, values-end-below t, values-end.Post) (other-end-at t) other-end.Post
 other-end-sub-values-end-2 t c = search needs
 
--- src/values.rt:92:5
 other-end-values-end-requires-2 : (t : ℕ) → other-end-lts.Need-values-end-requires-2 (run-end-reads.Asked, run-end-reads.Learnt, values-end-below t, values-end.Post) (other-end-at t) other-end.Post
 other-end-values-end-requires-2 t c κs = (omega arith, (omega arith, omega arith))
 
--- src/values.rt:65:1
 other-end-returns-8 : (t : ℕ) → other-end-lts.Need-returns-8 (run-end-reads.Asked, run-end-reads.Learnt, values-end-below t, values-end.Post) (other-end-at t) other-end.Post
 other-end-returns-8 t c = search payload
 
@@ -128,71 +107,54 @@ values-end-Inv-loop words pool at from count groups left₀ place₀ used₀ dee
 abbrev values-end-μ-loop : values-end-lts.MeasureT-loop
 values-end-μ-loop words pool at from count groups left₀ place₀ used₀ deep₀ left place used deep = 4294967296 * deep + left
 
--- src/values.rt:143:5
 values-end-loop-holds : (t : ℕ) → values-end-lts.Need-loop-holds (plain-end-reads.Asked, plain-end-reads.Learnt, last-group-reads.Asked, last-group-reads.Learnt, other-end-below t, other-end.Post) (values-end-at t) values-end.Post values-end-Inv-loop values-end-μ-loop
 values-end-loop-holds t c = search fields-start
 
--- src/values.rt:144:13
 values-end-plain-end-requires : (t : ℕ) → values-end-lts.Need-plain-end-requires (plain-end-reads.Asked, plain-end-reads.Learnt, last-group-reads.Asked, last-group-reads.Learnt, other-end-below t, other-end.Post) (values-end-at t) values-end.Post values-end-Inv-loop values-end-μ-loop
 values-end-plain-end-requires t c κs = search needs
 
--- src/values.rt:147:13
 values-end-sub-left : (t : ℕ) → values-end-lts.Need-sub-left (plain-end-reads.Asked, plain-end-reads.Learnt, last-group-reads.Asked, last-group-reads.Learnt, other-end-below t, other-end.Post) (values-end-at t) values-end.Post values-end-Inv-loop values-end-μ-loop
 values-end-sub-left t c = search needs
 
--- src/values.rt:143:5
 values-end-loop-less : (t : ℕ) → values-end-lts.Need-loop-less (plain-end-reads.Asked, plain-end-reads.Learnt, last-group-reads.Asked, last-group-reads.Learnt, other-end-below t, other-end.Post) (values-end-at t) values-end.Post values-end-Inv-loop values-end-μ-loop
 values-end-loop-less t c = omega arith
 
--- src/values.rt:143:5
 values-end-loop-again : (t : ℕ) → values-end-lts.Need-loop-again (plain-end-reads.Asked, plain-end-reads.Learnt, last-group-reads.Asked, last-group-reads.Learnt, other-end-below t, other-end.Post) (values-end-at t) values-end.Post values-end-Inv-loop values-end-μ-loop
 values-end-loop-again t c = search fields-plain
 
--- src/values.rt:149:17
 values-end-last-group-requires : (t : ℕ) → values-end-lts.Need-last-group-requires (plain-end-reads.Asked, plain-end-reads.Learnt, last-group-reads.Asked, last-group-reads.Learnt, other-end-below t, other-end.Post) (values-end-at t) values-end.Post values-end-Inv-loop values-end-μ-loop
 values-end-last-group-requires t c κs = search needs
 
--- src/values.rt:151:17
 values-end-add-place : (t : ℕ) → values-end-lts.Need-add-place (plain-end-reads.Asked, plain-end-reads.Learnt, last-group-reads.Asked, last-group-reads.Learnt, other-end-below t, other-end.Post) (values-end-at t) values-end.Post values-end-Inv-loop values-end-μ-loop
 values-end-add-place t c = omega (arith, c .before .last-group .ensures .inside (c .if2 .taken))
 
--- src/values.rt:152:24
 values-end-sub-left-2 : (t : ℕ) → values-end-lts.Need-sub-left-2 (plain-end-reads.Asked, plain-end-reads.Learnt, last-group-reads.Asked, last-group-reads.Learnt, other-end-below t, other-end.Post) (values-end-at t) values-end.Post values-end-Inv-loop values-end-μ-loop
 values-end-sub-left-2 t c = omega (arith, c .if2 .taken)
 
--- src/values.rt:153:17
 values-end-sub-deep : (t : ℕ) → values-end-lts.Need-sub-deep (plain-end-reads.Asked, plain-end-reads.Learnt, last-group-reads.Asked, last-group-reads.Learnt, other-end-below t, other-end.Post) (values-end-at t) values-end.Post values-end-Inv-loop values-end-μ-loop
 values-end-sub-deep t c = omega (arith, c .before .last-group .ensures .last (c .if2 .taken))
 
--- src/values.rt:143:5
 values-end-loop-less-2 : (t : ℕ) → values-end-lts.Need-loop-less-2 (plain-end-reads.Asked, plain-end-reads.Learnt, last-group-reads.Asked, last-group-reads.Learnt, other-end-below t, other-end.Post) (values-end-at t) values-end.Post values-end-Inv-loop values-end-μ-loop
 values-end-loop-less-2 t c = omega (arith, c .before .last-group .ensures .last (c .if2 .taken), c .before .last-group .ensures .small)
 
--- src/values.rt:143:5
 values-end-loop-again-2 : (t : ℕ) → values-end-lts.Need-loop-again-2 (plain-end-reads.Asked, plain-end-reads.Learnt, last-group-reads.Asked, last-group-reads.Learnt, other-end-below t, other-end.Post) (values-end-at t) values-end.Post values-end-Inv-loop values-end-μ-loop
 values-end-loop-again-2 t c = search fields-into
 
--- src/values.rt:155:21
 values-end-other-end-requires : (t : ℕ) → values-end-lts.Need-other-end-requires (plain-end-reads.Asked, plain-end-reads.Learnt, last-group-reads.Asked, last-group-reads.Learnt, other-end-below t, other-end.Post) (values-end-at t) values-end.Post values-end-Inv-loop values-end-μ-loop
 values-end-other-end-requires t c κs = (omega (arith, c .before .before .before .before .before .loop .inv .deep), (search not-plain, omega (arith, c .before .before .before .before .before .loop .inv .until)))
 
--- src/values.rt:159:21
 values-end-returns : (t : ℕ) → values-end-lts.Need-returns (plain-end-reads.Asked, plain-end-reads.Learnt, last-group-reads.Asked, last-group-reads.Learnt, other-end-below t, other-end.Post) (values-end-at t) values-end.Post values-end-Inv-loop values-end-μ-loop
 values-end-returns t c = search fields-fail
 
--- src/values.rt:161:17
 values-end-sub-left-3 : (t : ℕ) → values-end-lts.Need-sub-left-3 (plain-end-reads.Asked, plain-end-reads.Learnt, last-group-reads.Asked, last-group-reads.Learnt, other-end-below t, other-end.Post) (values-end-at t) values-end.Post values-end-Inv-loop values-end-μ-loop
 values-end-sub-left-3 t c = search needs
 
--- src/values.rt:143:5
 values-end-loop-less-3 : (t : ℕ) → values-end-lts.Need-loop-less-3 (plain-end-reads.Asked, plain-end-reads.Learnt, last-group-reads.Asked, last-group-reads.Learnt, other-end-below t, other-end.Post) (values-end-at t) values-end.Post values-end-Inv-loop values-end-μ-loop
 values-end-loop-less-3 t c = omega arith
 
--- src/values.rt:143:5
 values-end-loop-again-3 : (t : ℕ) → values-end-lts.Need-loop-again-3 (plain-end-reads.Asked, plain-end-reads.Learnt, last-group-reads.Asked, last-group-reads.Learnt, other-end-below t, other-end.Post) (values-end-at t) values-end.Post values-end-Inv-loop values-end-μ-loop
 values-end-loop-again-3 t c = search fields-go
 
--- src/values.rt:128:1
 values-end-returns-2 : (t : ℕ) → values-end-lts.Need-returns-2 (plain-end-reads.Asked, plain-end-reads.Learnt, last-group-reads.Asked, last-group-reads.Learnt, other-end-below t, other-end.Post) (values-end-at t) values-end.Post values-end-Inv-loop values-end-μ-loop
 values-end-returns-2 t c = search fields-done
 

@@ -2,9 +2,6 @@ use Rattle.sheet.proofs.AdmitValue.{too-long, too-large, no-value, more
 use borrow.Author.Needs.{needs}
 use Rattle.sheet.proofs.values.admit_value.Statement.{statement}
 use Rattle.sheet.proofs.values.admit_value.Tie as tie
-use Rattle.sheet.proofs.values.admit_value.Reads as reads
-use Rattle.sheet.proofs.values.admit_value.Lts as lts
-use Rattle.sheet.proofs.values.value_end.Reads as value-end-reads
 
 returns : tie.Need-returns
 returns c = search too-long

@@ -2,66 +2,49 @@ use Rattle.sheet.proofs.ValueWalk.{no-group, record-last, union-last}
 use borrow.Author.Needs.{needs}
 use Rattle.sheet.proofs.values.last_group.Statement.{statement}
 use Rattle.sheet.proofs.values.last_group.Tie as tie
-use Rattle.sheet.proofs.values.last_group.Reads as reads
-use Rattle.sheet.proofs.values.last_group.Lts as lts
 
--- src/values.rt:101:9
 returns : tie.Need-returns
 returns c = no-group (c .before .args .words .now) (c .before .args .at) (c .before .args .left) (c .before .args .groups)
 
--- src/values.rt:104:9
 returns-2 : tie.Need-returns-2
 returns-2 c = no-group (c .before .before .args .words .now) (c .before .before .args .at) (c .before .before .args .left) (c .before .before .args .groups)
 
--- src/values.rt:107:9
 returns-3 : tie.Need-returns-3
 returns-3 c = no-group (c .before .before .before .args .words .now) (c .before .before .before .args .at) (c .before .before .before .args .left) (c .before .before .before .args .groups)
 
--- src/values.rt:109:8
 sub-if4 : tie.Need-sub-if4
 sub-if4 c = search needs
 
--- src/values.rt:110:9
 returns-4 : tie.Need-returns-4
 returns-4 c = no-group (c .before .before .before .before .args .words .now) (c .before .before .before .before .args .at) (c .before .before .before .before .args .left) (c .before .before .before .before .args .groups)
 
--- src/values.rt:112:22
 add-more : tie.Need-add-more
 add-more c = search needs
 
--- src/values.rt:112:16
 mul-more : tie.Need-mul-more
 mul-more c = search needs
 
--- src/values.rt:112:16
 shared-slice-read-more : tie.Need-shared-slice-read-more
 shared-slice-read-more c = search needs
 
--- src/values.rt:114:9
 returns-5 : tie.Need-returns-5
 returns-5 c = no-group (c .before .before .before .before .before .before .args .words .now) (c .before .before .before .before .before .before .args .at) (c .before .before .before .before .before .before .args .left) (c .before .before .before .before .before .before .args .groups)
 
--- src/values.rt:116:16
 mul-kind : tie.Need-mul-kind
 mul-kind c = search needs
 
--- src/values.rt:116:16
 shared-slice-read-kind : tie.Need-shared-slice-read-kind
 shared-slice-read-kind c = search needs
 
--- src/values.rt:118:16
 add-result : tie.Need-add-result
 add-result c = search needs
 
--- src/values.rt:118:9
 returns-6 : tie.Need-returns-6
 returns-6 c = record-last (c .before .before .before .before .before .before .before .before .args .words .now) (c .before .before .before .before .before .before .before .before .args .at) (c .before .before .before .before .before .before .before .before .args .left) (c .before .before .before .before .before .before .before .before .args .groups) (c .before .before .before .before .before .before .before .if1 .left) (c .before .before .before .before .before .before .if2 .left) (c .before .before .before .before .if4 .left) (c .before .before .if5 .left) (c .if6 .taken)
 
--- src/values.rt:121:9
 returns-7 : tie.Need-returns-7
 returns-7 c = union-last (c .before .before .before .before .before .before .before .before .before .args .words .now) (c .before .before .before .before .before .before .before .before .before .args .at) (c .before .before .before .before .before .before .before .before .before .args .left) (c .before .before .before .before .before .before .before .before .before .args .groups) (c .before .before .before .before .before .before .before .before .if1 .left) (c .before .before .before .before .before .before .before .if2 .left) (c .before .before .before .before .before .if4 .left) (c .before .before .before .if5 .left) (c .if7 .taken)
 
--- src/values.rt:97:1
 returns-8 : tie.Need-returns-8
 returns-8 c = no-group (c .before .before .before .before .before .before .before .before .before .args .words .now) (c .before .before .before .before .before .before .before .before .before .args .at) (c .before .before .before .before .before .before .before .before .before .args .left) (c .before .before .before .before .before .before .before .before .before .args .groups)
 

@@ -2,8 +2,6 @@ use Rattle.sheet.proofs.ValueWalk.{gone, null, cut, integer, reference,
 use borrow.Author.Needs.{needs}
 use Rattle.sheet.proofs.values.plain_end.Statement.{statement}
 use Rattle.sheet.proofs.values.plain_end.Tie as tie
-use Rattle.sheet.proofs.values.plain_end.Reads as reads
-use Rattle.sheet.proofs.values.plain_end.Lts as lts
 
 returns : tie.Need-returns
 returns c = search gone

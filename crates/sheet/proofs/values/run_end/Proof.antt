@@ -2,9 +2,6 @@ use Rattle.sheet.proofs.ValueWalk.{over, raw, text, no-text}
 use borrow.Author.Needs.{needs}
 use Rattle.sheet.proofs.values.run_end.Statement.{statement}
 use Rattle.sheet.proofs.values.run_end.Tie as tie
-use Rattle.sheet.proofs.values.run_end.Reads as reads
-use Rattle.sheet.proofs.values.run_end.Lts as lts
-use Rattle.text.proofs.valid.Reads as valid-reads
 
 add-len : tie.Need-add-len
 add-len c = search needs

@@ -2,9 +2,6 @@ use Rattle.sheet.proofs.ValueWalk.{none-left, one-end}
 use borrow.Author.Needs.{needs}
 use Rattle.sheet.proofs.values.value_end.Statement.{statement}
 use Rattle.sheet.proofs.values.value_end.Tie as tie
-use Rattle.sheet.proofs.values.value_end.Reads as reads
-use Rattle.sheet.proofs.values.value_end.Lts as lts
-use Rattle.sheet.proofs.values.values_end.Reads as values-end-reads
 
 returns : tie.Need-returns
 returns c = search none-left

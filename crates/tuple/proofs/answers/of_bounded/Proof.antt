@@ -1,32 +1,22 @@
 use borrow.Author.Needs.{needs}
 use Rattle.tuple.proofs.answers.of_bounded.Statement.{statement}
 use Rattle.tuple.proofs.answers.of_bounded.Tie as tie
-use Rattle.tuple.proofs.answers.of_bounded.Reads as reads
-use Rattle.tuple.proofs.answers.of_bounded.Lts as lts
-use Rattle.tuple.proofs.answers.no_ends.Reads as no-ends-reads
-use Rattle.tuple.proofs.answers.to_ends.Reads as to-ends-reads
 
--- src/answers.rt:313:23
 enum-known-answer : tie.Need-enum-known-answer
 enum-known-answer c = search needs
 
--- src/answers.rt:313:40
 to-ends-requires : tie.Need-to-ends-requires
 to-ends-requires c κs = search needs
 
--- src/answers.rt:314:26
 enum-known-answer-2 : tie.Need-enum-known-answer-2
 enum-known-answer-2 c = search needs
 
--- src/answers.rt:314:41
 no-ends-requires : tie.Need-no-ends-requires
 no-ends-requires c κs = search needs
 
--- src/answers.rt:309:1
 returns : tie.Need-returns
 returns c = rw (c .before .before .answer .given .1) (c .to-ends .ensures)
 
--- src/answers.rt:309:1
 returns-2 : tie.Need-returns-2
 returns-2 c = rw (c .before .before .answer2 .given .1) (c .no-ends .ensures)
 

@@ -1,45 +1,31 @@
 use borrow.Author.Needs.{needs}
 use Rattle.tuple.proofs.answers.of_part.Statement.{statement}
 use Rattle.tuple.proofs.answers.of_part.Tie as tie
-use Rattle.tuple.proofs.answers.of_part.Reads as reads
-use Rattle.tuple.proofs.answers.of_part.Lts as lts
-use Rattle.tuple.proofs.answers.in_key.Reads as in-key-reads
-use Rattle.tuple.proofs.answers.in_scratch.Reads as in-scratch-reads
-use Rattle.tuple.proofs.answers.no_part.Reads as no-part-reads
 
--- src/answers.rt:342:24
 enum-known-answer : tie.Need-enum-known-answer
 enum-known-answer c = search needs
 
--- src/answers.rt:342:42
 in-key-requires : tie.Need-in-key-requires
 in-key-requires c κs = search needs
 
--- src/answers.rt:343:28
 enum-known-answer-2 : tie.Need-enum-known-answer-2
 enum-known-answer-2 c = search needs
 
--- src/answers.rt:343:42
 in-scratch-requires : tie.Need-in-scratch-requires
 in-scratch-requires c κs = search needs
 
--- src/answers.rt:344:26
 enum-known-answer-3 : tie.Need-enum-known-answer-3
 enum-known-answer-3 c = search needs
 
--- src/answers.rt:344:41
 no-part-requires : tie.Need-no-part-requires
 no-part-requires c κs = search needs
 
--- src/answers.rt:338:1
 returns : tie.Need-returns
 returns c = rw (c .before .before .answer .given .1) (c .in-key .ensures)
 
--- src/answers.rt:338:1
 returns-2 : tie.Need-returns-2
 returns-2 c = rw (c .before .before .answer2 .given .1) (c .in-scratch .ensures)
 
--- src/answers.rt:338:1
 returns-3 : tie.Need-returns-3
 returns-3 c = rw (c .before .before .answer3 .given .1) (c .no-part .ensures)
 

@@ -4,25 +4,16 @@ use Rattle.tuple.specs.StepNumbers as numbers
 use borrow.Author.Needs.{needs}
 use Rattle.tuple.proofs.cursors.tuple_is_record_end.Statement.{statement}
 use Rattle.tuple.proofs.cursors.tuple_is_record_end.Tie as tie
-use Rattle.tuple.proofs.cursors.tuple_is_record_end.Reads as reads
-use Rattle.tuple.proofs.cursors.tuple_is_record_end.Lts as lts
-use Rattle.cursor.proofs.is_record_end.Reads as is-record-end-reads
-use Rattle.tuple.proofs.steps.cursor_at.Reads as cursor-at-reads
-use Rattle.tuple.proofs.steps.of_end.Reads as of-end-reads
 
--- src/cursors.rt:96:9
 cursor-at-requires : tie.Need-cursor-at-requires
 cursor-at-requires c κs = search needs
 
--- src/cursors.rt:97:19
 is-record-end-requires : tie.Need-is-record-end-requires
 is-record-end-requires c κs = search needs
 
--- src/cursors.rt:97:5
 of-end-requires : tie.Need-of-end-requires
 of-end-requires c κs = search needs
 
--- src/cursors.rt:92:1
 returns : tie.Need-returns
 returns c = laws.at-cursor (cursor.isRecordEnd _) numbers.endNumber _ _ _ _ (c .of-end .ensures) (c .before .is-record-end .ensures) (c .before .before .cursor-at .ensures)
 

@@ -4,25 +4,16 @@ use Rattle.tuple.specs.StepNumbers as numbers
 use borrow.Author.Needs.{needs}
 use Rattle.tuple.proofs.cursors.tuple_open_record.Statement.{statement}
 use Rattle.tuple.proofs.cursors.tuple_open_record.Tie as tie
-use Rattle.tuple.proofs.cursors.tuple_open_record.Reads as reads
-use Rattle.tuple.proofs.cursors.tuple_open_record.Lts as lts
-use Rattle.cursor.proofs.open_record.Reads as open-record-reads
-use Rattle.tuple.proofs.steps.cursor_at.Reads as cursor-at-reads
-use Rattle.tuple.proofs.steps.of_moved.Reads as of-moved-reads
 
--- src/cursors.rt:72:9
 cursor-at-requires : tie.Need-cursor-at-requires
 cursor-at-requires c κs = search needs
 
--- src/cursors.rt:73:21
 open-record-requires : tie.Need-open-record-requires
 open-record-requires c κs = search needs
 
--- src/cursors.rt:73:5
 of-moved-requires : tie.Need-of-moved-requires
 of-moved-requires c κs = search needs
 
--- src/cursors.rt:68:1
 returns : tie.Need-returns
 returns c = laws.at-cursor (cursor.openRecord _) (numbers.movedStep _ _) _ _ _ _ (c .of-moved .ensures) (c .before .open-record .ensures) (c .before .before .cursor-at .ensures)
 

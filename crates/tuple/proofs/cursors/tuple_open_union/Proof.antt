@@ -4,25 +4,16 @@ use Rattle.tuple.specs.StepNumbers as numbers
 use borrow.Author.Needs.{needs}
 use Rattle.tuple.proofs.cursors.tuple_open_union.Statement.{statement}
 use Rattle.tuple.proofs.cursors.tuple_open_union.Tie as tie
-use Rattle.tuple.proofs.cursors.tuple_open_union.Reads as reads
-use Rattle.tuple.proofs.cursors.tuple_open_union.Lts as lts
-use Rattle.cursor.proofs.open_union.Reads as open-union-reads
-use Rattle.tuple.proofs.steps.cursor_at.Reads as cursor-at-reads
-use Rattle.tuple.proofs.steps.of_taken.Reads as of-taken-reads
 
--- src/cursors.rt:80:9
 cursor-at-requires : tie.Need-cursor-at-requires
 cursor-at-requires c κs = search needs
 
--- src/cursors.rt:81:21
 open-union-requires : tie.Need-open-union-requires
 open-union-requires c κs = search needs
 
--- src/cursors.rt:81:5
 of-taken-requires : tie.Need-of-taken-requires
 of-taken-requires c κs = search needs
 
--- src/cursors.rt:76:1
 returns : tie.Need-returns
 returns c = laws.at-cursor (cursor.openUnion _) (numbers.stepOf _ _) _ _ _ _ (c .of-taken .ensures) (c .before .open-union .ensures) (c .before .before .cursor-at .ensures)
 

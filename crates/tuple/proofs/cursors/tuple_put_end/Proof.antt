@@ -3,29 +3,19 @@ use Rattle.tuple.proofs.StepLaws as laws
 use borrow.Author.Needs.{needs}
 use Rattle.tuple.proofs.cursors.tuple_put_end.Statement.{statement}
 use Rattle.tuple.proofs.cursors.tuple_put_end.Tie as tie
-use Rattle.tuple.proofs.cursors.tuple_put_end.Reads as reads
-use Rattle.tuple.proofs.cursors.tuple_put_end.Lts as lts
-use Rattle.cursor.proofs.put_end.Reads as put-end-reads
-use Rattle.tuple.proofs.steps.cursor_at.Reads as cursor-at-reads
-use Rattle.tuple.proofs.steps.of_wrote.Reads as of-wrote-reads
 
--- src/cursors.rt:120:9
 cursor-at-requires : tie.Need-cursor-at-requires
 cursor-at-requires c κs = search needs
 
--- src/cursors.rt:121:21
 put-end-requires : tie.Need-put-end-requires
 put-end-requires c κs = search needs
 
--- src/cursors.rt:121:5
 of-wrote-requires : tie.Need-of-wrote-requires
 of-wrote-requires c κs = search needs
 
--- src/cursors.rt:116:1
 same-length : tie.Need-same-length
 same-length c = search needs
 
--- src/cursors.rt:116:1
 returns : tie.Need-returns
 returns c = laws.written (cursor.putEnd _) _ _ _ _ _ _ _ (c .of-wrote .ensures) (c .before .before .before .put-end .ensures) (c .before .before .before .before .before .cursor-at .ensures)
 

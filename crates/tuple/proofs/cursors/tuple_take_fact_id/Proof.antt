@@ -4,25 +4,16 @@ use Rattle.tuple.specs.StepNumbers as numbers
 use borrow.Author.Needs.{needs}
 use Rattle.tuple.proofs.cursors.tuple_take_fact_id.Statement.{statement}
 use Rattle.tuple.proofs.cursors.tuple_take_fact_id.Tie as tie
-use Rattle.tuple.proofs.cursors.tuple_take_fact_id.Reads as reads
-use Rattle.tuple.proofs.cursors.tuple_take_fact_id.Lts as lts
-use Rattle.cursor.proofs.take_fact_id.Reads as take-fact-id-reads
-use Rattle.tuple.proofs.steps.cursor_at.Reads as cursor-at-reads
-use Rattle.tuple.proofs.steps.of_taken.Reads as of-taken-reads
 
--- src/cursors.rt:38:9
 cursor-at-requires : tie.Need-cursor-at-requires
 cursor-at-requires c κs = search needs
 
--- src/cursors.rt:39:21
 take-fact-id-requires : tie.Need-take-fact-id-requires
 take-fact-id-requires c κs = search needs
 
--- src/cursors.rt:39:5
 of-taken-requires : tie.Need-of-taken-requires
 of-taken-requires c κs = search needs
 
--- src/cursors.rt:34:1
 returns : tie.Need-returns
 returns c = laws.at-cursor (cursor.takeFactId _) (numbers.stepOf _ _) _ _ _ _ (c .of-taken .ensures) (c .before .take-fact-id .ensures) (c .before .before .cursor-at .ensures)
 

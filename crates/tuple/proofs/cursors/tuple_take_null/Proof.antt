@@ -4,25 +4,16 @@ use Rattle.tuple.specs.StepNumbers as numbers
 use borrow.Author.Needs.{needs}
 use Rattle.tuple.proofs.cursors.tuple_take_null.Statement.{statement}
 use Rattle.tuple.proofs.cursors.tuple_take_null.Tie as tie
-use Rattle.tuple.proofs.cursors.tuple_take_null.Reads as reads
-use Rattle.tuple.proofs.cursors.tuple_take_null.Lts as lts
-use Rattle.cursor.proofs.take_null.Reads as take-null-reads
-use Rattle.tuple.proofs.steps.cursor_at.Reads as cursor-at-reads
-use Rattle.tuple.proofs.steps.of_moved.Reads as of-moved-reads
 
--- src/cursors.rt:14:9
 cursor-at-requires : tie.Need-cursor-at-requires
 cursor-at-requires c κs = search needs
 
--- src/cursors.rt:15:21
 take-null-requires : tie.Need-take-null-requires
 take-null-requires c κs = search needs
 
--- src/cursors.rt:15:5
 of-moved-requires : tie.Need-of-moved-requires
 of-moved-requires c κs = search needs
 
--- src/cursors.rt:10:1
 returns : tie.Need-returns
 returns c = laws.at-cursor (cursor.takeNull _) (numbers.movedStep _ _) _ _ _ _ (c .of-moved .ensures) (c .before .take-null .ensures) (c .before .before .cursor-at .ensures)
 

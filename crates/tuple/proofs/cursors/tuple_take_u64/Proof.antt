@@ -4,25 +4,16 @@ use Rattle.tuple.specs.StepNumbers as numbers
 use borrow.Author.Needs.{needs}
 use Rattle.tuple.proofs.cursors.tuple_take_u64.Statement.{statement}
 use Rattle.tuple.proofs.cursors.tuple_take_u64.Tie as tie
-use Rattle.tuple.proofs.cursors.tuple_take_u64.Reads as reads
-use Rattle.tuple.proofs.cursors.tuple_take_u64.Lts as lts
-use Rattle.cursor.proofs.take_u64.Reads as take-u64-reads
-use Rattle.tuple.proofs.steps.cursor_at.Reads as cursor-at-reads
-use Rattle.tuple.proofs.steps.of_taken.Reads as of-taken-reads
 
--- src/cursors.rt:30:9
 cursor-at-requires : tie.Need-cursor-at-requires
 cursor-at-requires c κs = search needs
 
--- src/cursors.rt:31:21
 take-u64-requires : tie.Need-take-u64-requires
 take-u64-requires c κs = search needs
 
--- src/cursors.rt:31:5
 of-taken-requires : tie.Need-of-taken-requires
 of-taken-requires c κs = search needs
 
--- src/cursors.rt:26:1
 returns : tie.Need-returns
 returns c = laws.at-cursor (cursor.takeU64 _) (numbers.stepOf _ _) _ _ _ _ (c .of-taken .ensures) (c .before .take-u64 .ensures) (c .before .before .cursor-at .ensures)
 

@@ -2,24 +2,16 @@ use Rattle.tuple.proofs.Laws as laws
 use borrow.Author.Needs.{needs}
 use Rattle.tuple.proofs.fields.tuple_get_bytes.Statement.{statement}
 use Rattle.tuple.proofs.fields.tuple_get_bytes.Tie as tie
-use Rattle.tuple.proofs.fields.tuple_get_bytes.Reads as reads
-use Rattle.tuple.proofs.fields.tuple_get_bytes.Lts as lts
-use Rattle.scalar.proofs.get_bytes.Reads as get-bytes-reads
-use Rattle.tuple.proofs.answers.of_part.Reads as of-part-reads
 
--- src/fields.rt:35:22
 get-bytes-requires : tie.Need-get-bytes-requires
 get-bytes-requires c κs = search needs
 
--- src/fields.rt:35:5
 of-part-requires : tie.Need-of-part-requires
 of-part-requires c κs = search needs
 
--- src/fields.rt:31:1
 same-length : tie.Need-same-length
 same-length c = search needs
 
--- src/fields.rt:31:1
 returns : tie.Need-returns
 returns c = laws.handed _ _ _ _ (c .of-part .ensures) (c .before .before .before .get-bytes .ensures)
 

@@ -3,20 +3,13 @@ use Rattle.tuple.specs.Numbers.{numberOf}
 use borrow.Author.Needs.{needs}
 use Rattle.tuple.proofs.fields.tuple_get_i64.Statement.{statement}
 use Rattle.tuple.proofs.fields.tuple_get_i64.Tie as tie
-use Rattle.tuple.proofs.fields.tuple_get_i64.Reads as reads
-use Rattle.tuple.proofs.fields.tuple_get_i64.Lts as lts
-use Rattle.scalar.proofs.get_i64.Reads as get-i64-reads
-use Rattle.tuple.proofs.answers.of_int.Reads as of-int-reads
 
--- src/fields.rt:14:21
 get-i64-requires : tie.Need-get-i64-requires
 get-i64-requires c κs = search needs
 
--- src/fields.rt:14:5
 of-int-requires : tie.Need-of-int-requires
 of-int-requires c κs = search needs
 
--- src/fields.rt:10:1
 returns : tie.Need-returns
 returns c = c .of-int .ensures ∙ ap numberOf (c .before .get-i64 .ensures)
 

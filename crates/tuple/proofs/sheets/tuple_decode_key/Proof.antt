@@ -2,28 +2,19 @@ use Rattle.tuple.proofs.Laws as laws
 use borrow.Author.Needs.{needs}
 use Rattle.tuple.proofs.sheets.tuple_decode_key.Statement.{statement}
 use Rattle.tuple.proofs.sheets.tuple_decode_key.Tie as tie
-use Rattle.tuple.proofs.sheets.tuple_decode_key.Reads as reads
-use Rattle.tuple.proofs.sheets.tuple_decode_key.Lts as lts
-use Rattle.decode.proofs.decode_key.Reads as decode-key-reads
-use Rattle.tuple.proofs.answers.of_decoded.Reads as of-decoded-reads
 
--- src/sheets.rt:48:25
 decode-key-requires : tie.Need-decode-key-requires
 decode-key-requires c κs = search needs
 
--- src/sheets.rt:48:5
 of-decoded-requires : tie.Need-of-decoded-requires
 of-decoded-requires c κs = search needs
 
--- src/sheets.rt:39:1
 same-length : tie.Need-same-length
 same-length c = search needs
 
--- src/sheets.rt:39:1
 same-length-2 : tie.Need-same-length-2
 same-length-2 c = search needs
 
--- src/sheets.rt:39:1
 returns : tie.Need-returns
 returns c = laws.filled _ (c .before .before .before .before .before .decode-key .result) _ _ _ (c .of-decoded .ensures) (c .before .before .before .before .before .decode-key .ensures)
 

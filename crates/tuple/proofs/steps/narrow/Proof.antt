@@ -3,18 +3,13 @@ use Rattle.tuple.proofs.StepLaws.{cursorOf}
 use borrow.Author.Needs.{needs}
 use Rattle.tuple.proofs.steps.narrow.Statement.{statement}
 use Rattle.tuple.proofs.steps.narrow.Tie as tie
-use Rattle.tuple.proofs.steps.narrow.Reads as reads
-use Rattle.tuple.proofs.steps.narrow.Lts as lts
 
--- src/steps.rt:59:16
 cast-result : tie.Need-cast-result
 cast-result c = search needs
 
--- src/steps.rt:59:9
 returns : tie.Need-returns
 returns c = deep-less (cursorOf (c .before .args .at) (c .before .args .depth)) (c .if1 .taken)
 
--- src/steps.rt:55:1
 returns-2 : tie.Need-returns-2
 returns-2 c = deep-more (cursorOf (c .before .args .at) (c .before .args .depth)) (c .if1 .left)
 

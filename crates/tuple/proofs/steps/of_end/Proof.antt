@@ -3,32 +3,22 @@ use Rattle.tuple.proofs.StepLaws.{ended}
 use borrow.Author.Needs.{needs}
 use Rattle.tuple.proofs.steps.of_end.Statement.{statement}
 use Rattle.tuple.proofs.steps.of_end.Tie as tie
-use Rattle.tuple.proofs.steps.of_end.Reads as reads
-use Rattle.tuple.proofs.steps.of_end.Lts as lts
-use Rattle.tuple.proofs.answers.no_number.Reads as no-number-reads
-use Rattle.tuple.proofs.steps.one_if.Reads as one-if-reads
 
--- src/steps.rt:200:23
 enum-known-answer : tie.Need-enum-known-answer
 enum-known-answer c = search needs
 
--- src/steps.rt:203:20
 one-if-requires : tie.Need-one-if-requires
 one-if-requires c κs = search needs
 
--- src/steps.rt:206:28
 enum-known-answer-2 : tie.Need-enum-known-answer-2
 enum-known-answer-2 c = search needs
 
--- src/steps.rt:206:43
 no-number-requires : tie.Need-no-number-requires
 no-number-requires c κs = search needs
 
--- src/steps.rt:196:1
 returns : tie.Need-returns
 returns c = rw (c .before .before .answer .given .1) (ap ended (c .one-if .ensures))
 
--- src/steps.rt:196:1
 returns-2 : tie.Need-returns-2
 returns-2 c = rw (c .before .before .answer2 .given .1) (c .no-number .ensures)
 

@@ -2,24 +2,16 @@ use Rattle.tuple.proofs.StepLaws as laws
 use borrow.Author.Needs.{needs}
 use Rattle.tuple.proofs.steps.of_opening.Statement.{statement}
 use Rattle.tuple.proofs.steps.of_opening.Tie as tie
-use Rattle.tuple.proofs.steps.of_opening.Reads as reads
-use Rattle.tuple.proofs.steps.of_opening.Lts as lts
-use Rattle.tuple.proofs.answers.no_length.Reads as no-length-reads
-use Rattle.tuple.proofs.answers.to_length.Reads as to-length-reads
 
--- src/steps.rt:212:9
 to-length-requires : tie.Need-to-length-requires
 to-length-requires c κs = search needs
 
--- src/steps.rt:212:9
 returns : tie.Need-returns
 returns c = laws.at-zero _ _ _ (c .to-length .ensures) (c .before .if1 .taken)
 
--- src/steps.rt:214:5
 no-length-requires : tie.Need-no-length-requires
 no-length-requires c κs = search needs
 
--- src/steps.rt:208:1
 returns-2 : tie.Need-returns-2
 returns-2 c = laws.no-opening _ _ _ (c .no-length .ensures) (c .before .if1 .left)
 

@@ -1,44 +1,31 @@
 use borrow.Author.Needs.{needs}
 use Rattle.tuple.proofs.steps.of_step.Statement.{statement}
 use Rattle.tuple.proofs.steps.of_step.Tie as tie
-use Rattle.tuple.proofs.steps.of_step.Reads as reads
-use Rattle.tuple.proofs.steps.of_step.Lts as lts
-use Rattle.tuple.proofs.steps.no_char.Reads as no-char-reads
-use Rattle.tuple.proofs.steps.to_char.Reads as to-char-reads
 
--- src/steps.rt:248:20
 enum-known-step : tie.Need-enum-known-step
 enum-known-step c = search needs
 
--- src/steps.rt:248:29
 to-char-requires : tie.Need-to-char-requires
 to-char-requires c κs = search needs
 
--- src/steps.rt:249:22
 enum-told : tie.Need-enum-told
 enum-told c = search needs
 
--- src/steps.rt:249:22
 no-char-requires : tie.Need-no-char-requires
 no-char-requires c κs = search needs
 
--- src/steps.rt:250:23
 enum-known-step-2 : tie.Need-enum-known-step-2
 enum-known-step-2 c = search needs
 
--- src/steps.rt:250:38
 no-char-requires-2 : tie.Need-no-char-requires-2
 no-char-requires-2 c κs = search needs
 
--- src/steps.rt:244:1
 returns : tie.Need-returns
 returns c = rw (c .before .before .step .given .1) (c .to-char .ensures)
 
--- src/steps.rt:244:1
 returns-2 : tie.Need-returns-2
 returns-2 c = rw (c .before .enum-told .given .1) (c .no-char .ensures)
 
--- src/steps.rt:244:1
 returns-3 : tie.Need-returns-3
 returns-3 c = rw (c .before .before .step2 .given .1) (c .no-char2 .ensures)
 
