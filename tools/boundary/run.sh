@@ -1,5 +1,6 @@
 #!/bin/sh
-# Compiles and runs the checks of the library's boundary: the layout of the answers, and the stack that each call uses.
+# Compiles and runs the checks of the library's boundary: that the header declares what the library exports, the layout of the answers, and the stack that each
+# call uses.
 # usage: run.sh FOLDER     FOLDER holds libtuple.a
 set -eu
 if [ $# -ne 1 ] || [ ! -f "$1/libtuple.a" ]; then
@@ -8,6 +9,7 @@ if [ $# -ne 1 ] || [ ! -f "$1/libtuple.a" ]; then
 fi
 library=$(cd "$1" && pwd)/libtuple.a
 cd "$(dirname "$0")"
+./declared.sh
 made=$(mktemp -d)
 trap 'rm -rf "$made"' EXIT
 for program in answers stack; do

@@ -47,10 +47,10 @@ pub fn fit_key(ty: &[u32], words: &[u64]) -> u64
         return fit::fit_value(ty, words, 0, 0, 0, ty.len());
     }
     if words.len() < 2 {
-        return fit::refuse(format::TYPE_MISMATCH, 5);
+        return fit::refuse(format::TYPE_MISMATCH, format::VALUE_RECORD);
     }
-    if words[0] != 5 {
-        return fit::refuse(format::TYPE_MISMATCH, 5);
+    if words[0] != format::VALUE_RECORD {
+        return fit::refuse(format::TYPE_MISMATCH, format::VALUE_RECORD);
     }
     let count = ty[1];
     if words[1] != count as u64 {

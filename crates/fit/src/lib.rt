@@ -135,7 +135,7 @@ fn last(ty: &[u32], words: &[u64], t: usize, w: usize, left: u32, depth: u32) ->
     if ty[t] != format::KIND_RECORD {
         return 0;
     }
-    if words[w] != 5 {
+    if words[w] != format::VALUE_RECORD {
         return 0;
     }
     if words[w + 1] != wide(ty[t + 1]) {
@@ -287,10 +287,10 @@ pub fn fit_fields(
 fn run_of(kind: u64, x: u64, room: usize) -> usize
     ensures { λ r. ⌜ Within (runOf kind x) room r ⌝ }
 {
-    if kind == 2 {
+    if kind == format::VALUE_STR {
         return least(x, room);
     }
-    if kind == 3 {
+    if kind == format::VALUE_BYTES {
         return least(x, room);
     }
     0
@@ -308,16 +308,16 @@ fn item_len(kind: u64, x: u64, pool: &[u8], p: usize, e: usize) -> usize
     requires { ⌜ (p ≤ e) × (e ≤ length (now pool)) × (length (now pool) ≤ maxValueWords) ⌝ }
     ensures { λ r. ⌜ (r ≡ itemLen kind x (slice p e (now (pool .entry)))) × (r ≤ 12 + 2 * (e - p)) ⌝ }
 {
-    if kind == 1 {
+    if kind == format::VALUE_INT {
         return scalar::ints::int_len(x);
     }
-    if kind == 4 {
+    if kind == format::VALUE_FACT {
         return format::FACT_REF_FIELD_LEN;
     }
-    if kind == 5 {
+    if kind == format::VALUE_RECORD {
         return 2;
     }
-    if kind == 6 {
+    if kind == format::VALUE_UNION {
         return 2 + scalar::ints::uint_len(x);
     }
     1 + scalar::runs::run_len(pool, p, e)

@@ -25,9 +25,7 @@ pub const MARK_TERM: u8 = 0x00;
 
 pub const MARK_ESCAPE: u8 = 0xFF;
 
-// The kinds of types and values on a sheet.
-pub const KIND_NULL: u32 = 0;
-
+// The kinds on a type sheet.
 pub const KIND_INT: u32 = 1;
 
 pub const KIND_STR: u32 = 2;
@@ -40,6 +38,21 @@ pub const KIND_RECORD: u32 = 5;
 
 pub const KIND_UNION: u32 = 6;
 
+// The kinds on a value sheet, whose words are wider.
+pub const VALUE_NULL: u64 = 0;
+
+pub const VALUE_INT: u64 = 1;
+
+pub const VALUE_STR: u64 = 2;
+
+pub const VALUE_BYTES: u64 = 3;
+
+pub const VALUE_FACT: u64 = 4;
+
+pub const VALUE_RECORD: u64 = 5;
+
+pub const VALUE_UNION: u64 = 6;
+
 // The limits of document 01.
 pub const MAX_RECORD_DEPTH: u32 = 256;
 
@@ -50,6 +63,9 @@ pub const MAX_TYPE_WORDS: usize = 4096;
 pub const MAX_VALUE_WORDS: usize = 1048576;
 
 pub const MAX_POOL_BYTES: usize = 1048576;
+
+// A sheet's discriminants are below it.
+pub const DISCRIMINANTS: u64 = 4294967296;
 
 pub const PREDICATE_ID_SIZE: usize = 4;
 

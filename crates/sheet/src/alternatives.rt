@@ -43,12 +43,12 @@ pub fn alternative(ty: &[u32], at: usize, tag: u64) -> Choice
                 left: left - 1,
             };
         }
-        let next = flat_end(ty, inside, 320);
+        let next = flat_end(ty, inside, format::MAX_SHEET_GROUPS);
         if next != 0 {
             place = next;
             left -= 1;
         } else {
-            place = type_end(ty, inside, 320);
+            place = type_end(ty, inside, format::MAX_SHEET_GROUPS);
             if place == 0 {
                 return Choice { place: 0, left: 0 };
             }
@@ -65,5 +65,5 @@ pub fn skip_alternatives(ty: &[u32], at: usize, count: u32) -> usize
     if at > ty.len() {
         return 0;
     }
-    alternatives_end(ty, at, count, 320)
+    alternatives_end(ty, at, count, format::MAX_SHEET_GROUPS)
 }

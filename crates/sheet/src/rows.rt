@@ -16,7 +16,11 @@ fn wide(x: u32) -> u64
 pub fn plain(kind: u32) -> bool
     ensures { λ r. ⌜ (r ≡ true → IsPlain kind) ⌝ }
 {
-    if kind == 0 { false } else { kind < 4 }
+    if kind == 0 {
+        false
+    } else {
+        kind < format::KIND_FACT
+    }
 }
 
 // Are the `count` types at a place there, and plain?
@@ -47,7 +51,7 @@ pub fn flat_end(ty: &[u32], at: usize, groups: usize) -> usize
     if plain(kind) {
         return at + 1;
     }
-    if kind != 5 {
+    if kind != format::KIND_RECORD {
         return 0;
     }
     if groups == 0 {
@@ -75,7 +79,7 @@ fn plain_row(ty: &[u32], at: usize, tag: u64) -> bool
         if kind == 0 {
             plain = false;
         }
-        if 3 < kind {
+        if format::KIND_BYTES < kind {
             plain = false;
         }
         if wide(ty[at + 2 * i]) == tag {

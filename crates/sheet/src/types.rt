@@ -8,7 +8,7 @@ ghost use Rattle.format.specs.TypeSheet.{typeAt, types, alts, typeOf, isSome};
 ghost use Rattle.sheet.specs.Places.{Ends, LastRecord, Skips};
 
 // A tag that no discriminant word has.
-const NO_TAG: u64 = 0x1_0000_0000;
+const NO_TAG: u64 = format::DISCRIMINANTS;
 
 // The place behind the type at `at`, of at most `groups` groups in one another; 0 if there is none. Only a group is a call.
 pub fn type_end(ty: &[u32], at: usize, groups: usize) -> usize
@@ -21,13 +21,13 @@ pub fn type_end(ty: &[u32], at: usize, groups: usize) -> usize
     if kind == 0 {
         return 0;
     }
-    if kind < 4 {
+    if kind < format::KIND_FACT {
         return at + 1;
     }
     if ty.len() - at < 2 {
         return 0;
     }
-    if kind == 4 {
+    if kind == format::KIND_FACT {
         return at + 2;
     }
     group_end(ty, at, groups)
@@ -43,10 +43,10 @@ fn group_end(ty: &[u32], at: usize, groups: usize) -> usize
     }
     let kind = ty[at];
     let count = ty[at + 1];
-    if kind == 5 {
+    if kind == format::KIND_RECORD {
         return fields_end(ty, at + 2, count, groups - 1);
     }
-    if kind == 6 {
+    if kind == format::KIND_UNION {
         return alternatives_end(ty, at + 2, count, groups - 1);
     }
     0
@@ -69,7 +69,7 @@ fn last_record(ty: &[u32], at: usize, left: u32, groups: usize) -> u32
     if ty.len() - at < 2 {
         return 0;
     }
-    if ty[at] != 5 {
+    if ty[at] != format::KIND_RECORD {
         return 0;
     }
     let more = ty[at + 1];
@@ -135,10 +135,10 @@ pub fn alternatives_end(ty: &[u32], at: usize, count: u32, groups: usize) -> usi
 pub fn admit_type(ty: &[u32]) -> bool
     ensures { λ r. ⌜ r ≡ isSome (typeOf (now (ty .entry))) ⌝ }
 {
-    if ty.len() > 4096 {
+    if ty.len() > format::MAX_TYPE_WORDS {
         return false;
     }
-    let end = type_end(ty, 0, 320);
+    let end = type_end(ty, 0, format::MAX_SHEET_GROUPS);
     if end == 0 {
         return false;
     }
@@ -149,5 +149,5 @@ pub fn admit_type(ty: &[u32]) -> bool
 pub fn skip_type(ty: &[u32], at: usize) -> usize
     ensures { λ r. ⌜ Skips (now (ty .entry)) at r ⌝ }
 {
-    type_end(ty, at, 320)
+    type_end(ty, at, format::MAX_SHEET_GROUPS)
 }

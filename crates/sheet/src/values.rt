@@ -20,16 +20,16 @@ fn plain_end(words: &[u64], at: usize) -> usize
         return 0;
     }
     let kind = words[at];
-    if kind == 0 {
+    if kind == format::VALUE_NULL {
         return at + 1;
     }
     if words.len() - at < 2 {
         return 0;
     }
-    if kind == 1 {
+    if kind == format::VALUE_INT {
         return at + 2;
     }
-    if kind == 4 {
+    if kind == format::VALUE_FACT {
         return at + 2;
     }
     0
@@ -46,7 +46,7 @@ fn run_end(words: &[u64], pool: &[u8], at: usize, from: usize) -> Place
         return Place { words: 0, pool: 0 };
     }
     let end = from + len as usize;
-    if words[at] == 3 {
+    if words[at] == format::VALUE_BYTES {
         return Place {
             words: at + 2,
             pool: end,
@@ -73,20 +73,20 @@ fn other_end(words: &[u64], pool: &[u8], at: usize, from: usize, groups: usize) 
         return Place { words: 0, pool: 0 };
     }
     let kind = words[at];
-    if kind < 4 {
+    if kind < format::VALUE_FACT {
         return run_end(words, pool, at, from);
     }
     if groups == 0 {
         return Place { words: 0, pool: 0 };
     }
-    let more = words[at + 1];
-    if kind == 5 {
-        return values_end(words, pool, at + 2, from, more, groups - 1);
+    let x = words[at + 1];
+    if kind == format::VALUE_RECORD {
+        return values_end(words, pool, at + 2, from, x, groups - 1);
     }
-    if kind > 6 {
+    if kind > format::VALUE_UNION {
         return Place { words: 0, pool: 0 };
     }
-    if more >= 4294967296 {
+    if x >= format::DISCRIMINANTS {
         return Place { words: 0, pool: 0 };
     }
     values_end(words, pool, at + 2, from, 1, groups - 1)
@@ -110,14 +110,14 @@ fn last_group(words: &[u64], at: usize, left: u64, groups: usize) -> u64
         return 0;
     }
     let more = words[at + 1];
-    if more >= 4294967296 {
+    if more >= format::DISCRIMINANTS {
         return 0;
     }
     let kind = words[at];
-    if kind == 5 {
+    if kind == format::VALUE_RECORD {
         return more + 1;
     }
-    if kind == 6 {
+    if kind == format::VALUE_UNION {
         return 2;
     }
     0
@@ -183,13 +183,13 @@ pub fn value_end(words: &[u64], pool: &[u8], at: usize, from: usize, groups: usi
 pub fn admit_value(words: &[u64], pool: &[u8]) -> bool
     ensures { λ r. ⌜ r ≡ isSome (valueOf (now (words .entry)) (now (pool .entry))) ⌝ }
 {
-    if words.len() > 1048576 {
+    if words.len() > format::MAX_VALUE_WORDS {
         return false;
     }
-    if pool.len() > 1048576 {
+    if pool.len() > format::MAX_POOL_BYTES {
         return false;
     }
-    let end = value_end(words, pool, 0, 0, 320);
+    let end = value_end(words, pool, 0, 0, format::MAX_SHEET_GROUPS);
     if end.words == 0 {
         return false;
     }

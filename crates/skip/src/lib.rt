@@ -115,16 +115,16 @@ fn left_token(rest: &[u8], depth: u32, escape: bool) -> Token
 fn number_width(mark: u8) -> usize
     ensures { λ r. ⌜ Width mark r ⌝ }
 {
-    if mark < 0x40 {
+    if mark < format::MARK_INT_NEG_MIN {
         return 9;
     }
-    if mark < 0x48 {
-        return (0x48 - mark) as usize;
+    if mark < format::MARK_INT_ZERO {
+        return (format::MARK_INT_ZERO - mark) as usize;
     }
-    if mark <= 0x50 {
-        return (mark - 0x48) as usize;
+    if mark <= format::MARK_INT_POS_MAX {
+        return (mark - format::MARK_INT_ZERO) as usize;
     }
-    if mark == 0x51 {
+    if mark == format::MARK_FACT_REF {
         return 8;
     }
     9

@@ -101,10 +101,10 @@ fn put_run(out: &mut [u8], at: usize, pool: &[u8], p: usize, e: usize) -> usize
 fn run_of(kind: u64, x: u64) -> usize
     ensures { λ r. ⌜ r ≡ plainPool kind x ⌝ }
 {
-    if kind == 1 {
+    if kind == format::VALUE_INT {
         return 0;
     }
-    if kind == 4 {
+    if kind == format::VALUE_FACT {
         return 0;
     }
     x as usize
@@ -123,13 +123,13 @@ fn put_scalar(
     requires { ⌜ (at ≤ length (now out)) × (p ≤ e) × (e ≤ length (now pool)) ⌝ }
     ensures { λ r. ⌜ Stored (now (out .entry)) at (plainBytes kind x (slice p e (now (pool .entry)))) r (now (out .exit)) ⌝ }
 {
-    if kind == 1 {
+    if kind == format::VALUE_INT {
         return put_int(out, at, x);
     }
-    if kind == 4 {
+    if kind == format::VALUE_FACT {
         return put_ref(out, at, x);
     }
-    if kind == 2 {
+    if kind == format::VALUE_STR {
         let run = put_byte(out, at, format::MARK_STRING);
         return put_run(out, run, pool, p, e);
     }
@@ -160,7 +160,7 @@ pub fn put_plain(
         }
         let kind = words[w];
         let x = words[w + 1];
-        if 5 <= kind {
+        if format::VALUE_RECORD <= kind {
             return stand(w, p, at, left);
         }
         let n = run_of(kind, x);
@@ -179,7 +179,7 @@ pub fn put_plain(
 fn count_of(kind: u64, x: u64) -> u64
     ensures { λ r. ⌜ r ≡ groupCount kind x ⌝ }
 {
-    if kind == 5 { x } else { 1 }
+    if kind == format::VALUE_RECORD { x } else { 1 }
 }
 
 // A group's mark, and a union's tag.
@@ -187,7 +187,7 @@ fn open_group(out: &mut [u8], at: usize, kind: u64, x: u64) -> usize
     requires { ⌜ at ≤ length (now out) ⌝ }
     ensures { λ r. ⌜ Stored (now (out .entry)) at (groupBytes kind x) r (now (out .exit)) ⌝ }
 {
-    if kind == 5 {
+    if kind == format::VALUE_RECORD {
         return put_byte(out, at, format::MARK_RECORD);
     }
     let tag = put_byte(out, at, format::MARK_UNION);
@@ -221,7 +221,7 @@ fn last_group(words: &[u64], w: usize, left: u64) -> bool
     if words.len() - w < 2 {
         return false;
     }
-    4 < words[w]
+    format::VALUE_FACT < words[w]
 }
 
 // A value.
@@ -241,7 +241,7 @@ pub fn put_value(
     }
     let kind = words[word];
     let x = words[word + 1];
-    if kind < 5 {
+    if kind < format::VALUE_RECORD {
         let n = run_of(kind, x);
         if pool.len() - from < n {
             return stand(word, from, at, 0);

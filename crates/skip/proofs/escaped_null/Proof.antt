@@ -8,7 +8,7 @@ escape-follows-requires : tie.Need-escape-follows-requires
 escape-follows-requires c κs = search needs
 
 returns : tie.Need-returns
-returns c = null-passed (c .before .before .before .args .rest .now) (c .before .before .before .args .depth) (sym (c .before .escape-follows .ensures) ∙ c .if1 .taken)
+returns c = null-passed (c .before .before .before .args .rest .now) (c .before .before .before .args .depth) (c .before .before .before .pre) (sym (c .before .escape-follows .ensures) ∙ c .if1 .taken)
 
 returns-2 : tie.Need-returns-2
 returns-2 c = null-bare (c .before .before .before .args .rest .now) (c .before .before .before .args .depth) (sym (c .before .escape-follows .ensures) ∙ c .if1 .left)

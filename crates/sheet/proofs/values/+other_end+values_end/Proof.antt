@@ -61,14 +61,14 @@ other-end-returns-3 t c = c .run-end .ensures .ends _
 other-end-returns-4 : (t : ℕ) → other-end-lts.Need-returns-4 (run-end-reads.Asked, run-end-reads.Learnt, values-end-below t, values-end.Post) (other-end-at t) other-end.Post
 other-end-returns-4 t c = search too-deep
 
-other-end-add-more : (t : ℕ) → other-end-lts.Need-add-more (run-end-reads.Asked, run-end-reads.Learnt, values-end-below t, values-end.Post) (other-end-at t) other-end.Post
-other-end-add-more t c = search needs
+other-end-add-x : (t : ℕ) → other-end-lts.Need-add-x (run-end-reads.Asked, run-end-reads.Learnt, values-end-below t, values-end.Post) (other-end-at t) other-end.Post
+other-end-add-x t c = search needs
 
-other-end-mul-more : (t : ℕ) → other-end-lts.Need-mul-more (run-end-reads.Asked, run-end-reads.Learnt, values-end-below t, values-end.Post) (other-end-at t) other-end.Post
-other-end-mul-more t c = search needs
+other-end-mul-x : (t : ℕ) → other-end-lts.Need-mul-x (run-end-reads.Asked, run-end-reads.Learnt, values-end-below t, values-end.Post) (other-end-at t) other-end.Post
+other-end-mul-x t c = search needs
 
-other-end-shared-slice-read-more : (t : ℕ) → other-end-lts.Need-shared-slice-read-more (run-end-reads.Asked, run-end-reads.Learnt, values-end-below t, values-end.Post) (other-end-at t) other-end.Post
-other-end-shared-slice-read-more t c = search needs
+other-end-shared-slice-read-x : (t : ℕ) → other-end-lts.Need-shared-slice-read-x (run-end-reads.Asked, run-end-reads.Learnt, values-end-below t, values-end.Post) (other-end-at t) other-end.Post
+other-end-shared-slice-read-x t c = search needs
 
 other-end-add-values-end : (t : ℕ) → other-end-lts.Need-add-values-end (run-end-reads.Asked, run-end-reads.Learnt, values-end-below t, values-end.Post) (other-end-at t) other-end.Post
 other-end-add-values-end t c = search needs
@@ -170,9 +170,9 @@ pub +other-end+values-end-spec : {M : Type 1} → statement M
     (other-end-run-end-requires t)
     (other-end-returns-3 t)
     (other-end-returns-4 t)
-    (other-end-add-more t)
-    (other-end-mul-more t)
-    (other-end-shared-slice-read-more t)
+    (other-end-add-x t)
+    (other-end-mul-x t)
+    (other-end-shared-slice-read-x t)
     (other-end-add-values-end t)
     (other-end-sub-values-end t)
     (other-end-values-end-requires t)

@@ -1,0 +1,57 @@
+#!/bin/sh
+# That include/tuple.h declares what the library exports: writes the answers and the calls of crates/tuple in C's words, and compiles that beside the header.
+# A field, a size, a parameter or an answer that differs does not compile; a call that only one of the two has is shown.
+set -eu
+cd "$(dirname "$0")/../.."
+made=$(mktemp -d)
+trap 'rm -rf "$made"' EXIT
+cat crates/tuple/src/answers.rt crates/tuple/src/steps.rt | awk '
+    BEGIN {
+        split("u32 uint32_t u64 uint64_t i32 int32_t bool bool", words, " ")
+        for (i = 1; i < 8; i += 2) c[words[i]] = words[i + 1]
+        split("Length length Sheet sheet Ends ends Order order Number number Part part CursorStep step PartStep part_step CharStep char", words, " ")
+        for (i = 1; i < 18; i += 2) named[words[i]] = "tuple_" words[i + 1]
+    }
+    /^#\[repr\(C\)\]$/ { getline; name = $3; fields = ""; checks = ""; answers++; next }
+    name != "" && /^}$/ {
+        printf "struct in_library_%s {%s };\n%s", name, fields, checks
+        printf "_Static_assert(sizeof(struct in_library_%s) == sizeof(%s), \"%s: size\");\n", name, named[name], named[name]
+        name = ""
+    }
+    name != "" && $1 == "pub" {
+        field = $2; sub(/:$/, "", field); type = $3; sub(/,$/, "", type)
+        fields = fields " " c[type] " " field ";"
+        where = named[name] "." field
+        checks = checks "_Static_assert(offsetof(struct in_library_" name ", " field ") == offsetof(" named[name] ", " field "), \"" where ": place\");\n"
+        checks = checks "_Static_assert(__builtin_types_compatible_p(__typeof__(((" named[name] " *)0)->" field "), " c[type] "), \"" where ": type\");\n"
+    }
+    END { if (answers != 9) { print "the library has " answers " answers" > "/dev/stderr"; exit 1 } }' >"$made/answers.c"
+cat crates/tuple/src/*.rt | tr '\n' ' ' | sed 's/#\[no_mangle\]/\n/g' | awk '
+    BEGIN {
+        split("Length length Sheet sheet Ends ends Order order Number number Part part CursorStep step PartStep part_step CharStep char", words, " ")
+        for (i = 1; i < 18; i += 2) named[words[i]] = "tuple_" words[i + 1]
+        split("u8 uint8_t u32 uint32_t u64 uint64_t usize size_t bool bool", words, " ")
+        for (i = 1; i < 10; i += 2) c[words[i]] = words[i + 1]
+    }
+    match($0, /^ *pub extern "C" fn [a-z0-9_]+\([^)]*\) -> [A-Za-z]+/) {
+        call = substr($0, RSTART, RLENGTH)
+        answer = call; sub(/.* -> /, "", answer)
+        name = call; sub(/.* fn /, "", name); given = name; sub(/\(.*/, "", name)
+        sub(/^[^(]*\(/, "", given); sub(/\).*/, "", given)
+        n = split(given, parameter, ","); list = ""
+        for (i = 1; i <= n; i++) {
+            type = parameter[i]; sub(/.*: */, "", type); gsub(/ +$/, "", type)
+            if (type == "") continue
+            word = type; gsub(/&|mut |\[|\]/, "", word)
+            text = c[word]
+            if (type ~ /^&/) text = (type ~ /mut/ ? "" : "const ") text " *, size_t"
+            list = list (list == "" ? "" : ", ") text
+        }
+        print named[answer] " " name "(" list ");"
+    }' >"$made/calls.c"
+sed -n 's/^tuple_[a-z_]* \(tuple_[a-z0-9_]*\)(.*/\1/p' include/tuple.h | sort >"$made/in_header"
+sed -n 's/^tuple_[a-z_]* \(tuple_[a-z0-9_]*\)(.*/\1/p' "$made/calls.c" | sort >"$made/in_library"
+diff "$made/in_header" "$made/in_library"
+{ echo '#include "include/tuple.h"'; cat "$made/answers.c" "$made/calls.c"; } >"$made/declared.c"
+${CC:-cc} -std=gnu11 -Wall -Wextra -Werror -I . -fsyntax-only "$made/declared.c"
+echo "$(wc -l <"$made/in_library") calls and 9 answers: the header declares what the library exports"
