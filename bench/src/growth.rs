@@ -32,16 +32,12 @@ fn integers(n: usize) -> Sized {
 /// Rows: the size, then ours and the Rust's time for encoding and for decoding, and ours by the unit.
 pub fn run() {
     println!("| value | size | encode_typed ns | Rust ns | ns a unit | decode_typed ns | Rust ns | ns a unit |\n|-|-|-|-|-|-|-|-|");
-    for k in (4..=20).step_by(4) {
-        row("bytes", 1 << k, bytes(1 << k));
+    for (name, value) in [("bytes", bytes as fn(usize) -> Sized), ("zeros", zeros), ("ASCII", text)] {
+        for k in (4..=20).step_by(4) {
+            row(name, 1 << k, value(1 << k));
+        }
     }
-    for k in (4..=16).step_by(4) {
-        row("zeros", 1 << k, zeros(1 << k));
-    }
-    for k in (4..=20).step_by(4) {
-        row("ASCII", 1 << k, text(1 << k));
-    }
-    for k in (4..=11).step_by(1) {
+    for k in 4..=11 {
         row("integers", 1 << k, integers(1 << k));
     }
 }
