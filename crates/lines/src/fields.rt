@@ -32,21 +32,7 @@ pub fn field(line: &[u8], number: usize) -> &[u8] {
     &line[start..end]
 }
 
-// How many fields a line has: one more than its spaces.
-pub fn field_count(line: &[u8]) -> usize {
-    let mut spaces: usize = 0;
-    let mut i = 0;
-    while i < line.len() {
-        if line[i] == b' ' {
-            spaces += 1;
-        }
-        i += 1;
-    }
-    spaces + 1
-}
-
-// Whether two texts are the same.
-pub fn same(a: &[u8], b: &[u8]) -> bool {
+fn same(a: &[u8], b: &[u8]) -> bool {
     if a.len() != b.len() {
         return false;
     }
@@ -60,15 +46,14 @@ pub fn same(a: &[u8], b: &[u8]) -> bool {
     true
 }
 
-// Which field of a list is this name; the number of its fields where none is.
+// Which field of a list is this name; past its last field where none is.
 pub fn place_of(list: &[u8], name: &[u8]) -> usize {
-    let count = field_count(list);
     let mut i = 0;
-    while i < count {
+    while i < list.len() {
         if same(field(list, i), name) {
             return i;
         }
         i += 1;
     }
-    count
+    i
 }

@@ -1,17 +1,19 @@
 // Lists in a field: `-` is empty; else parts joined by `+`. A part is plain elements, or `*`, plain elements, `x` and how many times they stand there.
-// Plain elements are pairs of hexadecimal digits, or decimal numbers joined by `,`.
-use crate::fields::find;
-use crate::fields::same;
-use crate::numbers::Number;
+// Plain elements are pairs of hexadecimal digits, or decimal numbers joined by `,`. A list is read element by element.
+use crate::numbers::Element;
 use crate::numbers::decimal;
 ghost use Prim.Native.Nat.{_≤_};
-ghost use lib.ListN.{length};
-ghost use Rattle.lines.specs.Counts.{Counts};
 
-// How many elements of a list were put at the front of a buffer. What is no list, or has no room, is not ok and counts none.
-pub struct Parsed {
-    pub ok: bool,
-    pub count: usize,
+// The place behind a list's last element.
+pub const DONE: usize = 0xffff_ffff_ffff_ffff;
+
+// The element read last and the place of the next. In a repetition also the place of its first element and how many times it was read; else 0.
+// Where no list goes on, a walk stays as it is, and never comes to DONE.
+pub struct Walk {
+    pub value: u64,
+    pub at: usize,
+    pub first: usize,
+    pub times: u64,
 }
 
 // A hexadecimal digit's number; 16 for any other byte.
@@ -25,193 +27,138 @@ fn digit(b: u8) -> u64
     }
 }
 
-// The byte of a pair of digits; 256 where one is none.
-fn pair(a: u8, b: u8) -> u64 {
-    let high = digit(a);
-    let low = digit(b);
+// The byte at a place; past the end the sign that joins parts.
+fn byte(text: &[u8], at: usize) -> u8 {
+    if at < text.len() { text[at] } else { b'+' }
+}
+
+// The byte of the pair of digits from a place on.
+fn pair(text: &[u8], at: usize) -> Element {
+    if text.len() <= at {
+        return Element { value: 0, next: at };
+    }
+    let high = digit(text[at]);
+    let low = digit(byte(text, at + 1));
     if 15 < high {
-        return 256;
+        return Element { value: 0, next: at };
     }
     if 15 < low {
-        return 256;
+        return Element { value: 0, next: at };
     }
-    high * 16 + low
-}
-
-// Puts the bytes of pairs of digits at a place.
-fn pairs(text: &[u8], buf: &mut [u64], at: usize) -> Parsed
-    requires { ⌜ at ≤ length (now buf) ⌝ }
-    ensures { λ r. ⌜ r .count ≤ length (now (buf .exit)) ⌝ }
-{
-    let mut i = 0;
-    let mut end = at;
-    while i < text.len() {
-        if text.len() - i < 2 {
-            return Parsed {
-                ok: false,
-                count: 0,
-            };
-        }
-        if buf.len() <= end {
-            return Parsed {
-                ok: false,
-                count: 0,
-            };
-        }
-        let byte = pair(text[i], text[i + 1]);
-        if 255 < byte {
-            return Parsed {
-                ok: false,
-                count: 0,
-            };
-        }
-        buf[end] = byte;
-        i += 2;
-        end += 1;
-    }
-    Parsed {
-        ok: true,
-        count: end,
+    Element {
+        value: high * 16 + low,
+        next: std::num::wrapping_add_usize(at, 2),
     }
 }
 
-// Puts numbers at a place.
-fn numbers(text: &[u8], buf: &mut [u64], at: usize) -> Parsed
-    requires { ⌜ at ≤ length (now buf) ⌝ }
-    ensures { λ r. ⌜ r .count ≤ length (now (buf .exit)) ⌝ }
-{
-    let mut start = 0;
-    let mut end = at;
-    loop {
-        let comma = find(text, start, b',');
-        let Number::Value(word) = decimal(&text[start..comma]) else {
-            return Parsed {
-                ok: false,
-                count: 0,
-            };
-        };
-        if buf.len() <= end {
-            return Parsed {
-                ok: false,
-                count: 0,
-            };
-        }
-        buf[end] = word;
-        end += 1;
-        if comma == text.len() {
-            return Parsed {
-                ok: true,
-                count: end,
-            };
-        }
-        start = comma + 1;
-    }
-}
-
-fn plain(text: &[u8], hex: bool, buf: &mut [u64], at: usize) -> Parsed
-    requires { ⌜ at ≤ length (now buf) ⌝ }
-    ensures { λ r. ⌜ r .count ≤ length (now (buf .exit)) ⌝ }
-{
+fn element(text: &[u8], hex: bool, at: usize) -> Element {
     if hex {
-        pairs(text, buf, at)
+        pair(text, at)
     } else {
-        numbers(text, buf, at)
+        decimal(text, at)
     }
 }
 
-// Has the elements from one place to another stand there so many times in all.
-fn repeat(buf: &mut [u64], from: usize, to: usize, times: u64) -> Parsed
-    requires { ⌜ to ≤ length (now buf) ⌝ }
-    ensures { λ r. ⌜ r .count ≤ length (now (buf .exit)) ⌝ }
-{
-    if to <= from {
-        return Parsed {
-            ok: false,
-            count: 0,
+// The beginning of a part, which `*` makes a repetition.
+fn part(text: &[u8], value: u64, at: usize) -> Walk {
+    if byte(text, at) == b'*' {
+        let first = std::num::wrapping_add_usize(at, 1);
+        return Walk {
+            value,
+            at: first,
+            first,
+            times: 0,
         };
     }
-    let size = to - from;
-    let mut end = to;
-    let mut unit = size;
-    let mut left = times;
-    while 1 < left {
-        if buf.len() <= end {
-            return Parsed {
-                ok: false,
-                count: 0,
+    Walk {
+        value,
+        at,
+        first: 0,
+        times: 0,
+    }
+}
+
+// The beginning of a list.
+pub fn start(text: &[u8]) -> Walk {
+    if text.len() == 1 {
+        if text[0] == b'-' {
+            return Walk {
+                value: 0,
+                at: DONE,
+                first: 0,
+                times: 0,
             };
         }
-        buf[end] = buf[end - size];
-        end += 1;
-        unit -= 1;
-        if unit == 0 {
-            unit = size;
-            left -= 1;
-        }
     }
-    Parsed {
-        ok: left == 1,
-        count: end,
-    }
+    part(text, 0, 0)
 }
 
-// Puts a part of a list at a place.
-fn part(text: &[u8], hex: bool, buf: &mut [u64], at: usize) -> Parsed
-    requires { ⌜ at ≤ length (now buf) ⌝ }
-    ensures { λ r. ⌜ r .count ≤ length (now (buf .exit)) ⌝ }
-{
-    if text.len() == 0 {
-        return Parsed {
-            ok: false,
-            count: 0,
+// Behind a part that ends at a place: another part, or nothing.
+fn joined(text: &[u8], value: u64, end: usize, w: Walk) -> Walk {
+    if text.len() <= end {
+        return Walk {
+            value,
+            at: DONE,
+            first: 0,
+            times: 0,
         };
     }
-    if text[0] != b'*' {
-        return plain(text, hex, buf, at);
+    if text[end] == b'+' {
+        return part(text, value, end + 1);
     }
-    let x = find(text, 1, b'x');
-    if x == text.len() {
-        return Parsed {
-            ok: false,
-            count: 0,
+    w
+}
+
+// Behind a repetition's last element, at its `x`.
+fn repeated(text: &[u8], e: Element, w: Walk) -> Walk {
+    let count = decimal(text, std::num::wrapping_add_usize(e.next, 1));
+    let times = std::num::wrapping_add_u64(w.times, 1);
+    if w.first == 0 {
+        return w;
+    }
+    if times < count.value {
+        return Walk {
+            value: e.value,
+            at: w.first,
+            first: w.first,
+            times,
         };
     }
-    let Number::Value(times) = decimal(&text[x + 1..]) else {
-        return Parsed {
-            ok: false,
-            count: 0,
-        };
+    if times == count.value {
+        return joined(text, e.value, count.next, w);
+    }
+    w
+}
+
+// The next element of the same part.
+fn passed(e: Element, comma: bool, w: Walk) -> Walk {
+    let at = if comma {
+        std::num::wrapping_add_usize(e.next, 1)
+    } else {
+        e.next
     };
-    let unit = plain(&text[1..x], hex, buf, at);
-    let end = unit.count;
-    repeat(buf, at, end, times)
+    Walk {
+        value: e.value,
+        at,
+        first: w.first,
+        times: w.times,
+    }
 }
 
-// Puts a list at the front of a buffer.
-pub fn list(text: &[u8], hex: bool, buf: &mut [u64]) -> Parsed
-    ensures { λ r. ⌜ Counts (r .count) (now (buf .exit)) ⌝ }
-{
-    if same(text, b"-") {
-        return Parsed { ok: true, count: 0 };
+// Reads an element.
+pub fn step(text: &[u8], hex: bool, w: Walk) -> Walk {
+    let e = element(text, hex, w.at);
+    if e.next == w.at {
+        return w;
     }
-    let mut start = 0;
-    let mut end = 0;
-    loop {
-        let plus = find(text, start, b'+');
-        let read = part(&text[start..plus], hex, buf, end);
-        if !read.ok {
-            return Parsed {
-                ok: false,
-                count: 0,
-            };
-        }
-        end = read.count;
-        if plus == text.len() {
-            return Parsed {
-                ok: true,
-                count: end,
-            };
-        }
-        start = plus + 1;
+    match byte(text, e.next) {
+        b'x' => repeated(text, e, w),
+        b'+' => if w.first == 0 {
+            joined(text, e.value, e.next, w)
+        } else {
+            w
+        },
+        b',' => passed(e, !hex, w),
+        _ => passed(e, false, w),
     }
 }

@@ -1,110 +1,107 @@
-// What a line of the list says of a call's answer, against what the call gave. A call with p arguments has them as fields 1 to p, then '=', the refusal,
-// the detail, and the rest.
-ghost use mathlib.Core.Path.{_≡_};
-ghost use lib.ListN.{length};
+// What a line of the list says of an answer, against what a call gave. A call with p arguments has them as fields 1 to p, then '=', and from field p + 2 on
+// the refusal, the detail and the rest.
+use tuple::answers::Length;
+use tuple::answers::Number;
 ghost use Rattle.lines.specs.Counts.{Counts};
 
-// A number of the list; a field that is none counts as 0, and then disagrees with the oracle's answer.
-pub fn number(text: &[u8]) -> u64 {
-    match lines::decimal(text) {
-        lines::Number::Value(n) => n,
-        lines::Number::TooLarge => 0,
-        lines::Number::Bad => 0,
-    }
+// Buffers to be lent, holding EE.
+pub fn lent() -> [u8; 72000] {
+    [0xee; 72000]
 }
 
-pub fn size(text: &[u8]) -> usize {
-    number(text) as usize
+pub fn lent_words() -> [u64; 8192] {
+    [0xeeee_eeee_eeee_eeee; 8192]
 }
 
 // A room: how many of a buffer's bytes are lent.
-pub fn room(text: &[u8], buf: &[u8]) -> usize
+pub fn room(line: &[u8], number: usize, buf: &[u8; 72000]) -> usize
     ensures { λ r. ⌜ Counts r (now (buf .entry)) ⌝ }
 {
-    let n = size(text);
-    if n < buf.len() { n } else { buf.len() }
+    let all: &[u8] = buf;
+    let n = lines::size(line, number);
+    if n < all.len() { n } else { all.len() }
 }
 
-pub fn word_room(text: &[u8], buf: &[u64]) -> usize
+pub fn word_room(line: &[u8], number: usize, buf: &[u64; 8192]) -> usize
     ensures { λ r. ⌜ Counts r (now (buf .entry)) ⌝ }
 {
-    let n = size(text);
-    if n < buf.len() { n } else { buf.len() }
+    let all: &[u64] = buf;
+    let n = lines::size(line, number);
+    if n < all.len() { n } else { all.len() }
 }
 
-// Do a call's refusal and detail agree?
-pub fn head(line: &[u8], p: usize, no: u32, detail: u64) -> bool {
-    if 16 < p {
-        return false;
-    }
-    lines::is_decimal(lines::field(line, p + 2), no as u64)
-        & lines::is_decimal(lines::field(line, p + 3), detail)
-}
-
-// Does a buffer hold EE from a place on?
-pub fn untouched(buf: &[u8], from: usize) -> bool {
+// Does a buffer hold EE outside these places?
+fn untouched(buf: &[u8; 72000], at: usize, end: usize) -> bool {
     let mut all = true;
-    let mut i = 0;
-    while i < buf.len() {
-        if from <= i {
+    for i in 0..72000 {
+        if i < at || end <= i {
             if buf[i] != 0xee {
                 all = false;
             }
         }
-        i += 1;
     }
     all
 }
 
-pub fn untouched_words(buf: &[u64], from: usize) -> bool {
+// Does a field list the bytes between two places of a buffer?
+pub fn holds(line: &[u8], number: usize, at: usize, end: usize, buf: &[u8; 72000]) -> bool {
+    lines::is_bytes(line, number, at, end, buf)
+}
+
+// And is the rest untouched?
+pub fn written(line: &[u8], number: usize, at: usize, end: usize, buf: &[u8; 72000]) -> bool {
+    holds(line, number, at, end, buf) & untouched(buf, at, end)
+}
+
+fn untouched_words(buf: &[u64; 8192], from: usize) -> bool {
     let mut all = true;
-    let mut i = 0;
-    while i < buf.len() {
+    for i in 0..8192 {
         if from <= i {
             if buf[i] != 0xeeee_eeee_eeee_eeee {
                 all = false;
             }
         }
-        i += 1;
     }
     all
 }
 
-// The first n words, or all of a shorter one.
-pub fn first_words(s: &[u64], n: usize) -> &[u64] {
-    if n < s.len() {
-        return &s[..n];
+pub fn written_words(line: &[u8], number: usize, n: usize, buf: &[u64; 8192]) -> bool {
+    lines::is_words(line, number, n, buf) & untouched_words(buf, n)
+}
+
+pub fn is_length(line: &[u8], first: usize, a: Length) -> bool {
+    lines::are_decimals(line, first, &[a.refusal as u64, a.detail, a.length])
+}
+
+pub fn is_number(line: &[u8], first: usize, a: Number) -> bool {
+    lines::are_decimals(line, first, &[a.refusal as u64, a.detail, a.value, a.used])
+}
+
+// A length, which is the place behind what was written from another place on, and the bytes.
+pub fn wrote(line: &[u8], first: usize, a: Length, at: usize, buf: &[u8; 72000]) -> bool {
+    is_length(line, first, a)
+        & written(
+            line,
+            std::num::wrapping_add_usize(first, 3),
+            at,
+            a.length as usize,
+            buf,
+        )
+}
+
+// A payload: in the scratch buffer, or in the bytes from a place on. The scratch buffer is touched only where it holds the payload.
+pub fn held(
+    line: &[u8],
+    number: usize,
+    source: u32,
+    at: u64,
+    len: u64,
+    bytes: &[u8],
+    scratch: &[u8; 72000],
+) -> bool {
+    if source == 2 {
+        return written(line, number, 0, len as usize, scratch);
     }
-    s
-}
-
-// The bytes from a place on, none where it lies past the end.
-pub fn bytes_from(s: &[u8], at: usize) -> &[u8] {
-    if at < s.len() {
-        return &s[at..];
-    }
-    &s[..0]
-}
-
-// A length and the bytes at a buffer's beginning, in the fields from f on; the rest is untouched.
-pub fn length_and_bytes(line: &[u8], f: usize, n: usize, buf: &[u8]) -> bool {
-    if 16 < f {
-        return false;
-    }
-    lines::is_decimal(lines::field(line, f), n as u64)
-        & lines::is_bytes(lines::field(line, f + 1), show::first(buf, n))
-        & untouched(buf, n)
-}
-
-// Room for the longest bytes of a line, holding EE.
-pub fn lent_bytes() -> [u8; 72000]
-    ensures { λ r. ⌜ 72000 ≡ length r ⌝ }
-{
-    [0xee; 72000]
-}
-
-pub fn lent_words() -> [u64; 8192]
-    ensures { λ r. ⌜ 8192 ≡ length r ⌝ }
-{
-    [0xeeee_eeee_eeee_eeee; 8192]
+    let end = std::num::wrapping_add_u64(at, len);
+    lines::is_bytes(line, number, at as usize, end as usize, bytes) & untouched(scratch, 0, 0)
 }

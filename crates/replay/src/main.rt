@@ -1,120 +1,131 @@
 // Replays the fixed list of the original's answers (tools/README.md has its format) over the proved calls, and prints how many lines of each call agreed
 // and every line that did not.
 mod answers;
-mod changing;
 mod cursors;
-mod decoding;
-mod encoding;
-mod ordering;
-mod reading;
-mod scalars;
+mod fields;
+mod keys;
+mod reader;
+mod sheets;
 
 ghost use mathlib.Core.Path.{_≡_};
 ghost use lib.ListN.{length};
+ghost use Rattle.lines.specs.Counts.{Counts};
 
-// The call of a number in the list of names that main has.
-fn whole_call(call: usize, line: &[u8]) -> bool {
+// The names of the calls, of which each call's number is the place.
+fn names() -> [u8; 343]
+    ensures { λ r. ⌜ 343 ≡ length r ⌝ }
+{
+    *b"encode_typed encode_key decode_typed decode_key check_key skip compare strinc above_field bounds replace get_i64 get_u64 get_str get_bytes put_i64 put_u64 put_fact_id put_str put_bytes take_null take_i64 take_u64 take_fact_id open_record open_union close is_record_end take_str take_bytes put_null put_record put_end put_union chars_next chars"
+}
+
+// The calls whose first arguments are a type and bytes.
+fn of_key(call: usize, line: &[u8], ty: &[u32]) -> bool {
+    let mut bytes = [0; 72000];
+    let b = lines::bytes(line, 2, &mut bytes);
     match call {
-        0 => encoding::replay(line, false),
-        1 => encoding::replay(line, true),
-        2 => decoding::replay(line, false),
-        3 => decoding::replay(line, true),
-        4 => decoding::check(line),
-        5 => ordering::skip_line(line),
-        6 => ordering::compare_line(line),
-        7 => ordering::end_line(line, false),
-        8 => ordering::end_line(line, true),
-        9 => changing::bounds_line(line),
-        10 => changing::replace_line(line),
-        _ => false,
+        2 => sheets::decode(line, false, ty, &bytes[..b]),
+        3 => sheets::decode(line, true, ty, &bytes[..b]),
+        4 => sheets::check(line, ty, &bytes[..b]),
+        _ => keys::bounds(line, ty, &bytes[..b]),
     }
 }
 
-fn step_call(call: usize, line: &[u8]) -> bool {
+// The calls whose first argument is a type.
+fn of_type(call: usize, line: &[u8]) -> bool {
+    let mut ty = [0; 4097];
+    let t = lines::types(line, 1, &mut ty);
     match call {
-        20 => cursors::step_line(line, 0),
-        21 => cursors::step_line(line, 1),
-        22 => cursors::step_line(line, 2),
-        23 => cursors::step_line(line, 3),
-        24 => cursors::step_line(line, 4),
-        25 => cursors::step_line(line, 5),
-        26 => cursors::step_line(line, 6),
-        27 => cursors::end_line(line),
-        28 => cursors::part_line(line, true),
-        29 => cursors::part_line(line, false),
-        30 => cursors::put_line(line, 0),
-        31 => cursors::put_line(line, 1),
-        32 => cursors::put_line(line, 2),
-        33 => cursors::union_line(line),
-        34 => reading::next_line(line),
-        35 => reading::chars_line(line),
-        _ => whole_call(call, line),
+        0 => sheets::encode(line, false, &ty[..t]),
+        1 => sheets::encode(line, true, &ty[..t]),
+        10 => keys::replace(line, &ty[..t]),
+        _ => of_key(call, line, &ty[..t]),
     }
+}
+
+fn with_bytes(call: usize, line: &[u8], bytes: &[u8]) -> bool {
+    match call {
+        5 => keys::skip(line, bytes),
+        7 => keys::end(line, false, bytes),
+        8 => keys::end(line, true, bytes),
+        11 => fields::integer(line, true, bytes),
+        12 => fields::integer(line, false, bytes),
+        13 => fields::payload(line, true, bytes),
+        14 => fields::payload(line, false, bytes),
+        27 => cursors::record_end(line, bytes),
+        28 => cursors::take(line, true, bytes),
+        29 => cursors::take(line, false, bytes),
+        34 => reader::next(line, bytes),
+        35 => reader::chars(line, bytes),
+        _ => cursors::step(line, call, bytes),
+    }
+}
+
+// The calls whose first argument is bytes.
+fn of_bytes(call: usize, line: &[u8]) -> bool {
+    let mut bytes = [0; 72000];
+    let b = lines::bytes(line, 1, &mut bytes);
+    with_bytes(call, line, &bytes[..b])
 }
 
 fn agrees(call: usize, line: &[u8]) -> bool {
     match call {
-        11 => scalars::int_line(line, true),
-        12 => scalars::int_line(line, false),
-        13 => scalars::payload_line(line, true),
-        14 => scalars::payload_line(line, false),
-        15 => scalars::word_line(line, 0),
-        16 => scalars::word_line(line, 1),
-        17 => scalars::word_line(line, 2),
-        18 => scalars::run_line(line, true),
-        19 => scalars::run_line(line, false),
-        _ => step_call(call, line),
+        6 => keys::compare(line),
+        0..=4 | 9 | 10 => of_type(call, line),
+        15..=19 => fields::put(line, call),
+        30..=32 => cursors::put(line, call),
+        33 => cursors::put_union(line),
+        0..=35 => of_bytes(call, line),
+        _ => false,
     }
 }
 
-// One more of this number.
-fn count(counts: &mut [u64], i: usize) {
-    if i < counts.len() {
-        counts[i] = std::num::wrapping_add_u64(counts[i], 1);
-    }
-}
-
-fn judge(line: &[u8], names: &[u8], counts: &mut [u64]) {
-    let call = lines::place_of(names, lines::field(line, 0));
+// The number of a line's call where it agrees; else the line is printed.
+fn judge(line: &[u8]) -> usize {
+    let list = names();
+    let call = lines::place_of(&list, lines::field(line, 0));
     if agrees(call, line) {
-        count(counts, call);
-    } else {
-        show::text(b"differs: ");
-        show::text(line);
-        show::text(b"\n");
+        return call;
     }
+    show::text(b"differs: ");
+    show::text(line);
+    show::text(b"\n");
+    36
 }
 
-fn each(text: &[u8], names: &[u8], counts: &mut [u64]) {
+// How many lines of each call agree.
+fn counts(text: &[u8]) -> [u64; 37] {
+    let mut counts = [0; 37];
     let mut at = 0;
     while at < text.len() {
         let end = lines::find(text, at, b'\n');
-        judge(&text[at..end], names, counts);
+        let call = judge(&text[at..end]);
+        if call < 37 {
+            counts[call] = std::num::wrapping_add_u64(counts[call], 1);
+        }
         at = end + 1;
     }
+    counts
 }
 
-fn totals(names: &[u8], counts: &[u64]) {
-    for i in 0..counts.len() {
-        show::text(lines::field(names, i));
+fn totals(counts: [u64; 37]) {
+    let list = names();
+    for i in 0..36 {
+        show::text(lines::field(&list, i));
         show::text(b" ");
         show::number(counts[i]);
         show::text(b"\n");
     }
 }
 
-fn list_room() -> [u8; 1048576]
-    ensures { λ r. ⌜ 1048576 ≡ length r ⌝ }
+// Reads the list, and counts its bytes.
+fn read(room: &mut [u8; 1048576]) -> usize
+    ensures { λ r. ⌜ Counts r (now (room .exit)) ⌝ }
 {
-    [0; 1048576]
+    io::read_full(0, room)
 }
 
 fn main() {
-    let names =
-        b"encode_typed encode_key decode_typed decode_key check_key skip compare strinc above_field bounds replace get_i64 get_u64 get_str get_bytes put_i64 put_u64 put_fact_id put_str put_bytes take_null take_i64 take_u64 take_fact_id open_record open_union close is_record_end take_str take_bytes put_null put_record put_end put_union chars_next chars";
-    let mut room = list_room();
-    let mut counts = [0u64; 36];
-    let n = io::read_full(0, &mut room);
-    each(&room[..n], names, &mut counts);
-    totals(names, &counts);
+    let mut room = [0; 1048576];
+    let n = read(&mut room);
+    totals(counts(&room[..n]));
 }

@@ -1,18 +1,23 @@
+-- `replay::totals` is safe.
+use Prim.Native.Nat.{_≤_, _-_}
 use borrow.Author.Needs.{needs}
-use mathlib.Core.Path.{_≡_}
-use Prim.Native.Nat.{_-_}
-use lib.ListN.{length}
 use Rattle.replay.proofs.totals.Statement.{statement}
 use Rattle.replay.proofs.totals.Tie as tie
 
 abbrev Inv-loop : tie.InvT-loop
-Inv-loop names counts i₀ t4 t5 i-end i = i-end ≡ length counts
+Inv-loop counts list i₀ t5 t6 i = i ≤ 36
 
 abbrev μ-loop : tie.MeasureT-loop
-μ-loop names counts i₀ t4 t5 i-end i = i-end - i
+μ-loop counts list i₀ t5 t6 i = 36 - i
+
+names-requires : tie.Need-names-requires Inv-loop μ-loop
+names-requires c κs = search needs
 
 loop-holds : tie.Need-loop-holds Inv-loop μ-loop
 loop-holds c = search needs
+
+slice-aggregate-field : tie.Need-slice-aggregate-field Inv-loop μ-loop
+slice-aggregate-field c = search needs
 
 field-requires : tie.Need-field-requires Inv-loop μ-loop
 field-requires c κs = search needs
@@ -29,8 +34,8 @@ text-requires-2 c κs = search needs
 mul-number : tie.Need-mul-number Inv-loop μ-loop
 mul-number c = search needs
 
-shared-slice-read-number : tie.Need-shared-slice-read-number Inv-loop μ-loop
-shared-slice-read-number c = search needs
+array-read-number : tie.Need-array-read-number Inv-loop μ-loop
+array-read-number c = search needs
 
 number-requires : tie.Need-number-requires Inv-loop μ-loop
 number-requires c κs = search needs
@@ -59,13 +64,15 @@ totals-spec =
     (tie.spec
     Inv-loop
     μ-loop
+    names-requires
     loop-holds
+    slice-aggregate-field
     field-requires
     text-requires
     slice-aggregate-text
     text-requires-2
     mul-number
-    shared-slice-read-number
+    array-read-number
     number-requires
     slice-aggregate-text-2
     text-requires-3

@@ -1,17 +1,15 @@
--- `lines::fields::place_of` is safe: it ends at the list's last field.
+-- `lines::fields::place_of` is safe.
 use Prim.Native.Nat.{_≤_, _-_}
+use lib.ListN.{length}
 use borrow.Author.Needs.{needs}
 use Rattle.lines.proofs.fields.place_of.Statement.{statement}
 use Rattle.lines.proofs.fields.place_of.Tie as tie
 
 abbrev Inv-loop : tie.InvT-loop
-Inv-loop list name count i₀ i = i ≤ count
+Inv-loop list name i₀ i = i ≤ length list
 
 abbrev μ-loop : tie.MeasureT-loop
-μ-loop list name count i₀ i = count - i
-
-field-count-requires : tie.Need-field-count-requires Inv-loop μ-loop
-field-count-requires c κs = search needs
+μ-loop list name i₀ i = length list - i
 
 loop-holds : tie.Need-loop-holds Inv-loop μ-loop
 loop-holds c = search needs
@@ -43,7 +41,6 @@ place-of-spec =
     (tie.spec
     Inv-loop
     μ-loop
-    field-count-requires
     loop-holds
     field-requires
     same-requires

@@ -1,20 +1,20 @@
+-- `replay::answers::untouched` is safe.
+use Prim.Native.Nat.{_≤_, _-_}
 use borrow.Author.Needs.{needs}
-use Prim.Native.Nat.{_-_, _≤_}
-use lib.ListN.{length}
 use Rattle.replay.proofs.answers.untouched.Statement.{statement}
 use Rattle.replay.proofs.answers.untouched.Tie as tie
 
 abbrev Inv-loop : tie.InvT-loop
-Inv-loop buf from all₀ i₀ all i = i ≤ length buf
+Inv-loop buf at end all₀ i₀ all i = i ≤ 72000
 
 abbrev μ-loop : tie.MeasureT-loop
-μ-loop buf from all₀ i₀ all i = length buf - i
+μ-loop buf at end all₀ i₀ all i = 72000 - i
 
 loop-holds : tie.Need-loop-holds Inv-loop μ-loop
 loop-holds c = search needs
 
-shared-slice-read-if2 : tie.Need-shared-slice-read-if2 Inv-loop μ-loop
-shared-slice-read-if2 c = search needs
+element-copy-out-if3 : tie.Need-element-copy-out-if3 Inv-loop μ-loop
+element-copy-out-if3 c = search needs
 
 add-i : tie.Need-add-i Inv-loop μ-loop
 add-i c = search needs
@@ -31,4 +31,4 @@ returns c = search needs
 pub untouched-spec : {M : Type 1} → statement M
 untouched-spec =
     tie.close
-    (tie.spec Inv-loop μ-loop loop-holds shared-slice-read-if2 add-i loop-less loop-again returns)
+    (tie.spec Inv-loop μ-loop loop-holds element-copy-out-if3 add-i loop-less loop-again returns)

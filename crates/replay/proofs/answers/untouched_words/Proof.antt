@@ -1,14 +1,14 @@
+-- `replay::answers::untouched_words` is safe.
+use Prim.Native.Nat.{_≤_, _-_}
 use borrow.Author.Needs.{needs}
-use Prim.Native.Nat.{_-_, _≤_}
-use lib.ListN.{length}
 use Rattle.replay.proofs.answers.untouched_words.Statement.{statement}
 use Rattle.replay.proofs.answers.untouched_words.Tie as tie
 
 abbrev Inv-loop : tie.InvT-loop
-Inv-loop buf from all₀ i₀ all i = i ≤ length buf
+Inv-loop buf from all₀ i₀ all i = i ≤ 8192
 
 abbrev μ-loop : tie.MeasureT-loop
-μ-loop buf from all₀ i₀ all i = length buf - i
+μ-loop buf from all₀ i₀ all i = 8192 - i
 
 loop-holds : tie.Need-loop-holds Inv-loop μ-loop
 loop-holds c = search needs
@@ -16,8 +16,8 @@ loop-holds c = search needs
 mul-if2 : tie.Need-mul-if2 Inv-loop μ-loop
 mul-if2 c = search needs
 
-shared-slice-read-if2 : tie.Need-shared-slice-read-if2 Inv-loop μ-loop
-shared-slice-read-if2 c = search needs
+element-copy-out-if2 : tie.Need-element-copy-out-if2 Inv-loop μ-loop
+element-copy-out-if2 c = search needs
 
 add-i : tie.Need-add-i Inv-loop μ-loop
 add-i c = search needs
@@ -39,7 +39,7 @@ untouched-words-spec =
     μ-loop
     loop-holds
     mul-if2
-    shared-slice-read-if2
+    element-copy-out-if2
     add-i
     loop-less
     loop-again

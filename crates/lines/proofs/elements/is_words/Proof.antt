@@ -1,33 +1,35 @@
--- `lines::elements::same_words` is safe: both are as long.
+-- `lines::elements::is_words` is safe: no place past the buffer is read.
 use Prim.Native.Nat.{_≤_, _-_}
-use lib.ListN.{length}
 use borrow.Author.Needs.{needs}
-use Rattle.lines.proofs.elements.same_words.Statement.{statement}
-use Rattle.lines.proofs.elements.same_words.Tie as tie
+use Rattle.lines.proofs.elements.is_words.Statement.{statement}
+use Rattle.lines.proofs.elements.is_words.Tie as tie
 
 abbrev Inv-loop : tie.InvT-loop
-Inv-loop a b i₀ i = i ≤ length a
+Inv-loop line number n found text w₀ i₀ w i = i ≤ n
 
 abbrev μ-loop : tie.MeasureT-loop
-μ-loop a b i₀ i = length a - i
+μ-loop line number n found text w₀ i₀ w i = n - i
+
+field-requires : tie.Need-field-requires Inv-loop μ-loop
+field-requires c κs = search needs
+
+start-requires : tie.Need-start-requires Inv-loop μ-loop
+start-requires c κs = search needs
+
+loop-holds : tie.Need-loop-holds Inv-loop μ-loop
+loop-holds c = search needs
 
 returns : tie.Need-returns Inv-loop μ-loop
 returns c = search needs
 
-loop-holds : tie.Need-loop-holds Inv-loop μ-loop
-loop-holds c = search needs
+step-requires : tie.Need-step-requires Inv-loop μ-loop
+step-requires c κs = search needs
 
 mul-if2 : tie.Need-mul-if2 Inv-loop μ-loop
 mul-if2 c = search needs
 
 shared-slice-read-if2 : tie.Need-shared-slice-read-if2 Inv-loop μ-loop
 shared-slice-read-if2 c = search needs
-
-mul-if2-2 : tie.Need-mul-if2-2 Inv-loop μ-loop
-mul-if2-2 c = search needs
-
-shared-slice-read-if2-2 : tie.Need-shared-slice-read-if2-2 Inv-loop μ-loop
-shared-slice-read-if2-2 c = search needs
 
 returns-2 : tie.Need-returns-2 Inv-loop μ-loop
 returns-2 c = search needs
@@ -44,18 +46,19 @@ loop-again c = search needs
 returns-3 : tie.Need-returns-3 Inv-loop μ-loop
 returns-3 c = search needs
 
-pub same-words-spec : {M : Type 1} → statement M
-same-words-spec =
+pub is-words-spec : {M : Type 1} → statement M
+is-words-spec =
     tie.close
     (tie.spec
     Inv-loop
     μ-loop
-    returns
+    field-requires
+    start-requires
     loop-holds
+    returns
+    step-requires
     mul-if2
     shared-slice-read-if2
-    mul-if2-2
-    shared-slice-read-if2-2
     returns-2
     add-i
     loop-less

@@ -1,16 +1,15 @@
-use borrow.Author.Needs.{needs}
-use mathlib.Core.Path.{_≡_}
-use native.Mathlib.Omega.{arith}
-use Prim.Native.Nat.{_-_}
+-- `replay::counts` is safe.
+use Prim.Native.Nat.{_≤_, _-_}
 use lib.ListN.{length}
-use Rattle.replay.proofs.each.Statement.{statement}
-use Rattle.replay.proofs.each.Tie as tie
+use borrow.Author.Needs.{needs}
+use Rattle.replay.proofs.counts.Statement.{statement}
+use Rattle.replay.proofs.counts.Tie as tie
 
 abbrev Inv-loop : tie.InvT-loop
-Inv-loop text names counts₀ at₀ counts at = length counts ≡ length counts₀
+Inv-loop text counts₀ at₀ counts at = 0 ≤ at
 
 abbrev μ-loop : tie.MeasureT-loop
-μ-loop text names counts₀ at₀ counts at = length text - at
+μ-loop text counts₀ at₀ counts at = length text - at
 
 loop-holds : tie.Need-loop-holds Inv-loop μ-loop
 loop-holds c = search needs
@@ -30,6 +29,21 @@ part-judge-end c = search needs
 judge-requires : tie.Need-judge-requires Inv-loop μ-loop
 judge-requires c κs = search needs
 
+mul-wrapping-add-u64 : tie.Need-mul-wrapping-add-u64 Inv-loop μ-loop
+mul-wrapping-add-u64 c = search needs
+
+array-read-wrapping-add-u64 : tie.Need-array-read-wrapping-add-u64 Inv-loop μ-loop
+array-read-wrapping-add-u64 c = search needs
+
+wrapping-add-u64-requires : tie.Need-wrapping-add-u64-requires Inv-loop μ-loop
+wrapping-add-u64-requires c κs = search needs
+
+mul-counts : tie.Need-mul-counts Inv-loop μ-loop
+mul-counts c = search needs
+
+array-write-counts : tie.Need-array-write-counts Inv-loop μ-loop
+array-write-counts c = search needs
+
 add-at : tie.Need-add-at Inv-loop μ-loop
 add-at c = search needs
 
@@ -39,14 +53,11 @@ loop-less c = search needs
 loop-again : tie.Need-loop-again Inv-loop μ-loop
 loop-again c = search needs
 
-same-length : tie.Need-same-length Inv-loop μ-loop
-same-length c = search needs
-
 returns : tie.Need-returns Inv-loop μ-loop
 returns c = search needs
 
-pub each-spec : {M : Type 1} → statement M
-each-spec =
+pub counts-spec : {M : Type 1} → statement M
+counts-spec =
     tie.close
     (tie.spec
     Inv-loop
@@ -57,8 +68,12 @@ each-spec =
     part-judge-start
     part-judge-end
     judge-requires
+    mul-wrapping-add-u64
+    array-read-wrapping-add-u64
+    wrapping-add-u64-requires
+    mul-counts
+    array-write-counts
     add-at
     loop-less
     loop-again
-    same-length
     returns)

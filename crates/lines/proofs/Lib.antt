@@ -1,2 +1,0 @@
--- Laws that the proofs of `lines` share.
-pub mod Rooms

@@ -1,0 +1,67 @@
+-- `lines::elements::is_bytes` is safe: no place past the buffer is read.
+use Prim.Native.Nat.{_≤_, _-_}
+use native.Mathlib.Omega.{arith}
+use borrow.Author.Needs.{needs}
+use Rattle.lines.proofs.elements.is_bytes.Statement.{statement}
+use Rattle.lines.proofs.elements.is_bytes.Tie as tie
+
+abbrev Inv-loop : tie.InvT-loop
+Inv-loop line number at end found text w₀ i₀ w i = i ≤ i
+
+abbrev μ-loop : tie.MeasureT-loop
+μ-loop line number at end found text w₀ i₀ w i = end - i
+
+field-requires : tie.Need-field-requires Inv-loop μ-loop
+field-requires c κs = search needs
+
+start-requires : tie.Need-start-requires Inv-loop μ-loop
+start-requires c κs = search needs
+
+loop-holds : tie.Need-loop-holds Inv-loop μ-loop
+loop-holds c = search needs
+
+returns : tie.Need-returns Inv-loop μ-loop
+returns c = search needs
+
+step-requires : tie.Need-step-requires Inv-loop μ-loop
+step-requires c κs = search needs
+
+shared-slice-read-if2 : tie.Need-shared-slice-read-if2 Inv-loop μ-loop
+shared-slice-read-if2 c = search needs
+
+cast-if2 : tie.Need-cast-if2 Inv-loop μ-loop
+cast-if2 c = omega (arith, c .shared-slice-known3 .given (c .before .before .before .before .loop .i))
+
+returns-2 : tie.Need-returns-2 Inv-loop μ-loop
+returns-2 c = search needs
+
+add-i : tie.Need-add-i Inv-loop μ-loop
+add-i c = search needs
+
+loop-less : tie.Need-loop-less Inv-loop μ-loop
+loop-less c = search needs
+
+loop-again : tie.Need-loop-again Inv-loop μ-loop
+loop-again c = search needs
+
+returns-3 : tie.Need-returns-3 Inv-loop μ-loop
+returns-3 c = search needs
+
+pub is-bytes-spec : {M : Type 1} → statement M
+is-bytes-spec =
+    tie.close
+    (tie.spec
+    Inv-loop
+    μ-loop
+    field-requires
+    start-requires
+    loop-holds
+    returns
+    step-requires
+    shared-slice-read-if2
+    cast-if2
+    returns-2
+    add-i
+    loop-less
+    loop-again
+    returns-3)
