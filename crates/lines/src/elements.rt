@@ -5,6 +5,16 @@ use crate::lists::start;
 use crate::lists::step;
 ghost use Rattle.lines.specs.Counts.{Counts};
 
+// A number that is too wide reads as 0.
+fn narrow_byte(n: u64) -> u8 {
+    if n < 256 { n as u8 } else { 0 }
+}
+
+fn narrow(n: u64) -> u32 {
+    if n < 0x1_0000_0000 { n as u32 } else { 0 }
+}
+
+// Puts a list into a buffer, and counts its elements: none where the text is no list, or a longer one than the buffer.
 fn put_bytes(text: &[u8], buf: &mut [u8]) -> usize
     ensures { λ r. ⌜ Counts r (now (buf .exit)) ⌝ }
 {
@@ -44,29 +54,20 @@ fn put_types(text: &[u8], buf: &mut [u32]) -> usize
     if w.at == DONE { i } else { 0 }
 }
 
-fn narrow_byte(n: u64) -> u8 {
-    if n < 256 { n as u8 } else { 0 }
-}
-
-pub fn narrow(n: u64) -> u32 {
-    if n < 0x1_0000_0000 { n as u32 } else { 0 }
-}
-
-// Puts a list of bytes into a buffer, and counts them: none where the field is no list, or one that is longer.
+// The same for the list of a field.
 pub fn bytes(line: &[u8], number: usize, buf: &mut [u8; 72000]) -> usize
     ensures { λ r. ⌜ Counts r (now (buf .exit)) ⌝ }
 {
     put_bytes(field(line, number), buf)
 }
 
-// The same for a list of words.
 pub fn words(line: &[u8], number: usize, buf: &mut [u64; 8192]) -> usize
     ensures { λ r. ⌜ Counts r (now (buf .exit)) ⌝ }
 {
     put_words(field(line, number), buf)
 }
 
-// The same for a list of type words: those of the longest type sheet, and one more.
+// Room for the longest type sheet, and one word more.
 pub fn types(line: &[u8], number: usize, buf: &mut [u32; format::MAX_TYPE_WORDS + 1]) -> usize
     ensures { λ r. ⌜ Counts r (now (buf .exit)) ⌝ }
 {

@@ -32,7 +32,7 @@ fn of_key(call: usize, line: &[u8], ty: &[u32]) -> bool {
 
 // The calls whose first argument is a type.
 fn of_type(call: usize, line: &[u8]) -> bool {
-    let mut ty = [0; 4097];
+    let mut ty = [0; format::MAX_TYPE_WORDS + 1];
     let t = lines::types(line, 1, &mut ty);
     match call {
         0 => sheets::encode(line, false, &ty[..t]),

@@ -6,7 +6,7 @@ use Rattle.lines.proofs.elements.is_bytes.Statement.{statement}
 use Rattle.lines.proofs.elements.is_bytes.Tie as tie
 
 abbrev Inv-loop : tie.InvT-loop
-Inv-loop line number at end found text w₀ i₀ w i = i ≤ i
+Inv-loop line number at end found text w₀ i₀ w i = at ≤ i
 
 abbrev μ-loop : tie.MeasureT-loop
 μ-loop line number at end found text w₀ i₀ w i = end - i

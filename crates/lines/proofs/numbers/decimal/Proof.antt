@@ -6,7 +6,7 @@ use Rattle.lines.proofs.numbers.decimal.Statement.{statement}
 use Rattle.lines.proofs.numbers.decimal.Tie as tie
 
 abbrev Inv-loop : tie.InvT-loop
-Inv-loop text at value₀ i₀ value i = (value ≤ 18446744073709551615)
+Inv-loop text at value₀ i₀ value i = value ≤ 18446744073709551615
 
 abbrev μ-loop : tie.MeasureT-loop
 μ-loop text at value₀ i₀ value i = length text - i
