@@ -83,6 +83,9 @@ pub fn is_bytes(line: &[u8], number: usize, at: usize, end: usize, found: &[u8])
         if found.len() <= i {
             return false;
         }
+        if text.len() <= w.at {
+            return false;
+        }
         w = step(text, true, w);
         if w.value != found[i] as u64 {
             return false;
@@ -99,6 +102,9 @@ pub fn is_words(line: &[u8], number: usize, n: usize, found: &[u64]) -> bool {
     let mut i = 0;
     while i < n {
         if found.len() <= i {
+            return false;
+        }
+        if text.len() <= w.at {
             return false;
         }
         w = step(text, false, w);

@@ -23,17 +23,20 @@ loop-holds c = search needs
 returns : tie.Need-returns Inv-loop μ-loop
 returns c = search needs
 
+returns-2 : tie.Need-returns-2 Inv-loop μ-loop
+returns-2 c = search needs
+
 step-requires : tie.Need-step-requires Inv-loop μ-loop
 step-requires c κs = search needs
 
-shared-slice-read-if2 : tie.Need-shared-slice-read-if2 Inv-loop μ-loop
-shared-slice-read-if2 c = search needs
+shared-slice-read-if3 : tie.Need-shared-slice-read-if3 Inv-loop μ-loop
+shared-slice-read-if3 c = search needs
 
-cast-if2 : tie.Need-cast-if2 Inv-loop μ-loop
-cast-if2 c = omega (arith, c .shared-slice-known3 .given (c .before .before .before .before .loop .i))
+cast-if3 : tie.Need-cast-if3 Inv-loop μ-loop
+cast-if3 c = omega (arith, c .shared-slice-known3 .given (c .before .before .before .before .before .before .loop .i))
 
-returns-2 : tie.Need-returns-2 Inv-loop μ-loop
-returns-2 c = search needs
+returns-3 : tie.Need-returns-3 Inv-loop μ-loop
+returns-3 c = search needs
 
 add-i : tie.Need-add-i Inv-loop μ-loop
 add-i c = search needs
@@ -44,8 +47,8 @@ loop-less c = search needs
 loop-again : tie.Need-loop-again Inv-loop μ-loop
 loop-again c = search needs
 
-returns-3 : tie.Need-returns-3 Inv-loop μ-loop
-returns-3 c = search needs
+returns-4 : tie.Need-returns-4 Inv-loop μ-loop
+returns-4 c = search needs
 
 pub is-bytes-spec : {M : Type 1} → statement M
 is-bytes-spec =
@@ -57,11 +60,12 @@ is-bytes-spec =
     start-requires
     loop-holds
     returns
-    step-requires
-    shared-slice-read-if2
-    cast-if2
     returns-2
+    step-requires
+    shared-slice-read-if3
+    cast-if3
+    returns-3
     add-i
     loop-less
     loop-again
-    returns-3)
+    returns-4)
