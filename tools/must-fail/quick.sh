@@ -1,6 +1,6 @@
 #!/bin/sh
-# Tries every wrong program, those of the gate too, by incremental checks: a second or two for each, where the gate's own check of an edit takes its whole
-# crate anew. It is the edit loop and no verdict; run.sh and rt ci are. For each edit it prints the first error: a fact that fails, not a misfit of shape.
+# Tries every wrong program, those of the gate too, by incremental checks: some five to fifteen seconds for each, where the gate's own check of an edit takes
+# its whole crate anew. It is the edit loop and no verdict; run.sh and rt ci are. For each edit it prints the first error: a fact that fails, not a misfit of shape.
 # usage: quick.sh [CRATE ..]
 set -eu
 here=$(cd "$(dirname "$0")" && pwd)
