@@ -8,7 +8,7 @@ use Prim.Native.Nat.{ℕ, zero, suc, _+_, _≤_, _<_, _^_}
 use native.Mathlib.Omega.{arith}
 use lib.Dec.{ltb, leb}
 use lib.ListN.{length, take, drop, length-append, length-drop}
-use lib.Seq.{take-append-seam}
+use lib.Seq.{take-append-seam, length-take-le}
 use Rattle.format.specs.Answer.{if, Answer, ok, refused, andThen, noRoom, NoField}
 use Rattle.format.specs.Tree.{Ty, Tys, Val, Vals, fieldsIn}
 use Rattle.format.specs.Sheet.{fieldCount, valCount, valWords, valPool}
@@ -16,11 +16,12 @@ use Rattle.format.specs.TypeSheet.{typeOf}
 use Rattle.format.specs.ValueSheet.{valueOf, Proper, AllProper}
 use Rattle.format.specs.Encode.{valsBytes, encodeKey, keyBytes, fitsAll, maxKeyBytes, fine}
 use Rattle.format.specs.Decode.{decodeKey}
+use Rattle.format.specs.Order.{cmpBytes, cmpVal}
 use Rattle.format.specs.Bounds.{aboveField, firsts, firstBytes, Between}
 use Rattle.format.specs.Replace.{setField, spliced}
-use Rattle.format.specs.Calls.{Called, written, over, withValue, withType, replaced, encodeKeyCall, replaceCall, boundsCall, bounded}
-use Rattle.format.specs.Book.{Call, Seen, Book, seenOf, callOn, runCalls, keptWith, entered, turnedTo, replyOf, seenIn, runBook, bookAfter}
-use Rattle.format.specs.Demand3.{Held, AllHeld, Started, recordOf, keyOf, AsBook, RefusedAsBook, Ordered, Bounds, Demand3}
+use Rattle.format.specs.Calls.{Called, written, over, withValue, withType, replaced, encodeKeyCall, replaceCall, compareCall, boundsCall, bounded}
+use Rattle.format.specs.Book.{Call, Seen, Book, seenOf, callOn, runCalls, leftBy, leftIn, keptWith, entered, turnedTo, replyOf, seenIn, runBook, bookAfter}
+use Rattle.format.specs.Demand3.{Held, AllHeld, Started, recordOf, keyOf, AsBook, RefusedAsBook, Ordered, Bounds, Demand3, Holds}
 use Rattle.format.proofs.Tests.{Test, holds, fails, leb-test, ltb-test, leb-yes, ltb-no, passed}
 use Rattle.format.proofs.Sound.{Sound, AllSound}
 use Rattle.format.proofs.SoundLaws.{admitted-sound}
@@ -181,6 +182,13 @@ run-same ty b (c ∷ cs) k h =
     ap (goOn ty cs) (same ty b c k)
     ∙ ap (λ (l : List Seen). seenIn (entered b c) (turnedTo b (entered b c)) ∷ l) (run-same ty (turnedTo b (entered b c)) cs (turn ty b c k (h .0) .0) (h .1))
 
+left-same : (ty : List ℕ) (b : Book) (cs : List Call) → Kept ty b → AllHeld cs → leftBy ty (b .buffer) (b .used) cs ≡ leftIn (bookAfter b cs)
+unfolding leftBy bookAfter
+left-same ty b [] k h = refl
+left-same ty b (c ∷ cs) k h =
+    ap (λ (s : Seen). leftBy ty (s .buffer) (s .used) cs) (same ty b c k)
+    ∙ left-same ty (turnedTo b (entered b c)) cs (turn ty b c k (h .0) .0) (h .1)
+
 kept-after : (ty : List ℕ) (b : Book) (cs : List Call) → Kept ty b → AllHeld cs → Kept ty (bookAfter b cs) × (length (bookAfter b cs .buffer) ≡ length (b .buffer))
 unfolding bookAfter
 kept-after ty b [] k h = (k, refl)
@@ -194,17 +202,19 @@ kept-after ty b (c ∷ cs) k h =
 fresh-key : (ty : List ℕ) (b : Book) → Kept ty b → encodeKey (Ty.Record (b .types)) (recordOf b) ≡ ok (keyOf b)
 fresh-key ty b k = rw (k .key) (key-short (Ty.Record (b .types)) (recordOf b) (valsBytes 0 (b .fields)) (key-made (b .types) (b .fields) (k .fit)) (k .short))
 
-fresh-call : (ty : List ℕ) (b : Book) → Kept ty b → (out : List ℕ) → length (keyOf b) ≤ length out
-    → encodeKeyCall ty (valWords (recordOf b)) (valPool (recordOf b)) out ≡ record { answer = ok (length (keyOf b)); buffer = over (keyOf b) out }
+fresh-call : (ty : List ℕ) (b : Book) → Kept ty b → (out : List ℕ) → b .used ≤ length out
+    → encodeKeyCall ty (valWords (recordOf b)) (valPool (recordOf b)) out ≡ record { answer = ok (b .used); buffer = over (keyOf b) out }
 fresh-call ty b k out h =
+    let n : length (keyOf b) ≡ b .used = length-take-le (b .used) (b .buffer) (k .room) in
     key-call ty (valWords (recordOf b)) (valPool (recordOf b)) out (Ty.Record (b .types)) (recordOf b) (k .typed) (afresh ty (b .types) (b .fields) (k .typed) (k .proper) (k .fit) (k .short))
     ∙ ap (written out) (fresh-key ty b k)
-    ∙ writes out (keyOf b) h
+    ∙ writes out (keyOf b) (rw n h)
+    ∙ ap (λ (m : ℕ). record { answer = ok m; buffer = over (keyOf b) out }) n
 
 pub as-book : (ty : List ℕ) (b : Book) (cs : List Call) → Kept ty b → AllHeld cs → AsBook ty b cs
 as-book ty b cs k h =
     let a = kept-after ty b cs k h in
-    record { answers = run-same ty b cs k h; long = a .1; fresh = fresh-call ty (bookAfter b cs) (a .0) }
+    record { answers = run-same ty b cs k h; left = left-same ty b cs k h; long = a .1; fresh = fresh-call ty (bookAfter b cs) (a .0) }
 
 pub refused-as-book : (ty : List ℕ) (b : Book) (c : Call) → Kept ty b → RefusedAsBook ty b c
 refused-as-book ty b c k = record { refusal = λ n d. (λ e. there n d (entered b c) (ap (λ (s : Seen). s .answer) (sym (same ty b c k)) ∙ e), λ e. ap (λ (s : Seen). s .answer) (same ty b c k) ∙ ap replyOf e); unchanged = λ n d e. same ty b c k ∙ ap (λ (a : Answer Book). seenIn a (turnedTo b a)) e }
@@ -227,6 +237,14 @@ ordered ty b d k l =
     (key-within (Ty.Record (b .types)) (recordOf b) (keyOf b) (fresh-key ty b k) .0)
     (key-within (Ty.Record (b .types)) (recordOf d) (keyOf d) f .0) (k .sound) (l .sound)
 
+-- and the call that compares two values says how their keys compare
+pub compared : (ty : List ℕ) (b d : Book) → Kept ty b → Kept ty d
+    → compareCall (valWords (recordOf b)) (valPool (recordOf b)) (valWords (recordOf d)) (valPool (recordOf d)) ≡ ok (cmpBytes (keyOf b) (keyOf d))
+unfolding compareCall
+compared ty b d k l =
+    rw (afresh ty (b .types) (b .fields) (k .typed) (k .proper) (k .fit) (k .short), afresh ty (d .types) (d .fields) (l .typed) (l .proper) (l .fit) (l .short))
+    (ap ok (sym (ordered ty b d k l)))
+
 pub bounds : (ty : List ℕ) (b : Book) (k : ℕ) → Kept ty b → k ≤ fieldCount (b .types) → Bounds ty b k
 unfolding boundsCall
 bounds ty b k kept h = record {
@@ -240,23 +258,8 @@ bounds ty b k kept h = record {
       rw y (λ g. sym (f .0 g), λ g. f .1 (sym g));
 }
 
--- Demand 3 in full.
-pub demand3 : (ty : List ℕ) (wordsB poolB lentB wordsD poolD lentD : List ℕ) (b d : Book) (cs ds : List Call) (c : Call) (k : ℕ)
-    → Started ty wordsB poolB lentB b → Started ty wordsD poolD lentD d → AllHeld cs → AllHeld ds → Demand3 ty b d cs ds c k
-demand3 ty wordsB poolB lentB wordsD poolD lentD b d cs ds c k sb sd hc hd =
-    let kb = begins ty wordsB poolB lentB b sb in
-    let kd = begins ty wordsD poolD lentD d sd in
-    let ab = kept-after ty b cs kb hc .0 in
-    let ad = kept-after ty d ds kd hd .0 in
-    record {
-      list = as-book ty b cs kb hc;
-      refusals = refused-as-book ty (bookAfter b cs) c ab;
-      order = ordered ty (bookAfter b cs) (bookAfter d ds) ab ad;
-      bounds = λ h. bounds ty (bookAfter b cs) k ab (subst (λ (ts : Tys). k ≤ fieldCount ts) (types-same ty (bookAfter b cs) b ab kb) h);
-    }
-
 -- Every accepted encode_key of a record type starts such a book.
-pub starts : (ty words pool lent : List ℕ) (ts : Tys) (n : ℕ) → typeOf ty ≡ some (Ty.Record ts) → Held words pool → encodeKeyCall ty words pool lent .answer ≡ ok n
+starts : (ty words pool lent : List ℕ) (ts : Tys) (n : ℕ) → typeOf ty ≡ some (Ty.Record ts) → Held words pool → encodeKeyCall ty words pool lent .answer ≡ ok n
     → (b : Book) × Started ty words pool lent b
 unfolding encodeKeyCall
 starts ty words pool lent ts n e h a = go (valueOf words pool) refl
@@ -270,3 +273,18 @@ starts ty words pool lent ts n e h a = go (valueOf words pool) refl
           record { types = ts; fields = fieldsIn v; buffer = encodeKeyCall ty words pool lent .buffer; used = n },
           record { typed = e; valued = q ∙ ap some (p .0); answered = a; left = refl; held = h },
         )
+
+keeps : (ty words pool lent : List ℕ) (b : Book) (cs : List Call) → Started ty words pool lent b → AllHeld cs → Demand3 ty b cs
+keeps ty words pool lent b cs s h =
+    let kb = begins ty words pool lent b s in
+    let ab = kept-after ty b cs kb h .0 in
+    record {
+      list = as-book ty b cs kb h;
+      refusals = λ c. refused-as-book ty (bookAfter b cs) c ab;
+      order = λ wordsD poolD lentD d ds sd hd. ordered ty (bookAfter b cs) (bookAfter d ds) ab (kept-after ty d ds (begins ty wordsD poolD lentD d sd) hd .0);
+      bounds = λ k l. bounds ty (bookAfter b cs) k ab (subst (λ (ts : Tys). k ≤ fieldCount ts) (types-same ty (bookAfter b cs) b ab kb) l);
+    }
+
+-- Demand 3 in full.
+pub demand3 : Holds
+demand3 = record { starts = starts; keeps = keeps }

@@ -27,12 +27,10 @@
 -- BackLaws     what is read of a scalar is what is written of it
 -- CanonLaws    what is decoded fits its type, and is encoded to the bytes that it was decoded from
 -- KeyRound     both for whole values and keys
--- CodecLaws    order, round trip and canonicity of a field, in terms of encode and decode alone
 -- CountLaws    a decoding, refused or not, begins at most one value more than there are bytes
 -- TagLaws      a value that fits a type has the type's discriminants, so below 2^32
 --
 -- What code follows:
--- StepLaws     encoding field by field, and a group around its inside
 -- SkipLaws     skip turn by turn: each turn takes a byte, and the turns allowed are enough
 -- SkipRound    a value's bytes are skipped exactly, and so is an encoded field
 -- ReplaceLaws  a field spliced into a key gives the key of the changed fields
@@ -55,6 +53,7 @@
 -- PlainLaws    a value that is no group, by its words
 --
 -- Demand3      demand 3 of the request, in full
+-- BookExample  a list of replacements, computed by the call and by the book
 pub mod Specimens
 pub mod KeylistExample
 pub mod Bytes
@@ -76,10 +75,8 @@ pub mod RoundLaws
 pub mod BackLaws
 pub mod CanonLaws
 pub mod KeyRound
-pub mod CodecLaws
 pub mod CountLaws
 pub mod TagLaws
-pub mod StepLaws
 pub mod SkipLaws
 pub mod SkipRound
 pub mod ReplaceLaws
@@ -99,3 +96,4 @@ pub mod EncodePlaces
 pub mod FitLaws
 pub mod PlainLaws
 pub mod Demand3
+pub mod BookExample

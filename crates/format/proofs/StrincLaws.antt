@@ -1,13 +1,14 @@
 -- strinc: its answer is a byte string above every byte string that begins with the prefix, and it refuses exactly where there is none.
-use mathlib.Core.Path.{_≡_, refl, sym, _∙_}
+use mathlib.Core.Path.{_≡_, refl, sym, ap, _∙_}
 use mathlib.Core.Logic.{_≢_, _↔_}
 use mathlib.Core.Bool.{Bool, true, false}
 use mathlib.Core.List.{List, [], _∷_, _++_}
 use Prim.Native.Nat.{ℕ, zero, suc, _<_, compare, Ordering·lt}
 use native.Mathlib.Omega.{arith}
-use lib.Dec.{eqb, lit<}
+use lib.Dec.{eqb, leb, lit<}
 use lib.ListN.{length}
-use Rattle.format.specs.Answer.{Answer, ok, refused, if, NoBound}
+use Rattle.format.specs.Answer.{Answer, ok, refused, if, NoBound, shown}
+use Rattle.format.specs.Calls.{Called, written, over, strincCall}
 use Rattle.format.specs.Order.{then, cmpBytes}
 use Rattle.format.specs.Bounds.{before, trimmed, raised, raisedOr, strinc}
 use Rattle.format.proofs.Bytes.{AllBytes}
@@ -127,3 +128,16 @@ strinc-none p hp = (λ e q hq up. let r = reached p NoBound 0 e q hq in r .2 (up
     go : (a : Answer (List ℕ)) → strinc p ≡ a → ((q : List ℕ) → AllBytes q → Above p q → ⊥) → strinc p ≡ refused NoBound 0
     go (ok q) e none = absurd (none q (strinc-bytes p q hp e) (strinc-above p q e))
     go (refused n d) e none = let r = strinc-refusal p n d e in cc
+
+-- and so does the call, whatever room it has
+pub call-none : (p out : List ℕ) → AllBytes p → (strincCall p out .answer ≡ refused NoBound 0) ↔ ((q : List ℕ) → AllBytes q → Above p q → ⊥)
+unfolding strincCall
+call-none p out hp = (λ e. strinc-none p hp .0 (back (strinc p) e), λ none. ap (λ (a : Answer (List ℕ)). written out a .answer) (strinc-none p hp .1 none))
+  where
+    back : (a : Answer (List ℕ)) → written out a .answer ≡ refused NoBound 0 → a ≡ refused NoBound 0
+    back (refused n d) e = cc
+    back (ok x) e = room (leb (length x) (length out)) e
+      where
+        room : (b : Bool) → if {A = Called ℕ} b (record { answer = ok (length x); buffer = over x out }) (record { answer = refused 17 (shown (length x)); buffer = out }) .answer ≡ refused NoBound 0 → ok x ≡ refused NoBound 0
+        room true f = absurd (let z : _≡_ {A = ℕ} 0 1 = cc in omega arith)
+        room false f = absurd (let z : _≡_ {A = ℕ} 17 19 = cc in omega arith)

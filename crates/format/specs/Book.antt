@@ -41,6 +41,15 @@ runCalls ty buffer used [] = []
 runCalls ty buffer used (c ∷ cs) =
     callOn ty buffer used c ∷ runCalls ty (callOn ty buffer used c .buffer) (callOn ty buffer used c .used) cs
 
+-- what the calls of a list left: the used length and the whole buffer
+pub record Left : Type 0 where
+  pub used : ℕ
+  pub buffer : List ℕ
+
+unfoldable pub leftBy : (ty buffer : List ℕ) (used : ℕ) → List Call → Left
+leftBy ty buffer used [] = record { used = used; buffer = buffer }
+leftBy ty buffer used (c ∷ cs) = leftBy ty (callOn ty buffer used c .buffer) (callOn ty buffer used c .used) cs
+
 -- ---- the book
 
 -- it holds the type's fields, the value's fields, the lent buffer and the used length
@@ -82,3 +91,6 @@ runBook b (c ∷ cs) = seenIn (entered b c) (turnedTo b (entered b c)) ∷ runBo
 unfoldable pub bookAfter : Book → List Call → Book
 bookAfter b [] = b
 bookAfter b (c ∷ cs) = bookAfter (turnedTo b (entered b c)) cs
+
+abbrev pub leftIn : Book → Left
+leftIn b = record { used = b .used; buffer = b .buffer }

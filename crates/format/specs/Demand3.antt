@@ -6,14 +6,14 @@ use mathlib.Core.Path.{_≡_}
 use mathlib.Core.Logic.{_↔_}
 use lib.ListN.{length, take, getD}
 use Rattle.format.specs.Answer.{ok, refused}
-use Rattle.format.specs.Tree.{Ty, Val, fieldsIn}
+use Rattle.format.specs.Tree.{Ty, Tys, Val, fieldsIn}
 use Rattle.format.specs.Sheet.{fieldCount, valWords, valPool}
 use Rattle.format.specs.TypeSheet.{typeOf}
 use Rattle.format.specs.ValueSheet.{valueOf}
 use Rattle.format.specs.Order.{cmpBytes, cmpVal}
 use Rattle.format.specs.Bounds.{aboveField, firsts, firstBytes, Between}
 use Rattle.format.specs.Calls.{over, encodeKeyCall, boundsCall}
-use Rattle.format.specs.Book.{Call, Book, callOn, runCalls, entered, runBook, bookAfter}
+use Rattle.format.specs.Book.{Call, Book, callOn, runCalls, leftBy, leftIn, entered, runBook, bookAfter}
 
 -- ---- what the claims are about
 
@@ -49,10 +49,11 @@ keyOf b = take (b .used) (b .buffer)
 -- the plain book, run over the same list. The buffer's length stays. The used bytes are the key that encode_key, given room, writes afresh from the book's value.
 pub record AsBook (ty : List ℕ) (b : Book) (cs : List Call) : Type 0 where
   pub answers : runCalls ty (b .buffer) (b .used) cs ≡ runBook b cs
+  pub left : leftBy ty (b .buffer) (b .used) cs ≡ leftIn (bookAfter b cs)
   pub long : length (bookAfter b cs .buffer) ≡ length (b .buffer)
-  pub fresh : (out : List ℕ) → length (keyOf (bookAfter b cs)) ≤ length out
+  pub fresh : (out : List ℕ) → bookAfter b cs .used ≤ length out
       → encodeKeyCall ty (valWords (recordOf (bookAfter b cs))) (valPool (recordOf (bookAfter b cs))) out
-      ≡ record { answer = ok (length (keyOf (bookAfter b cs))); buffer = over (keyOf (bookAfter b cs)) out }
+      ≡ record { answer = ok (bookAfter b cs .used); buffer = over (keyOf (bookAfter b cs)) out }
 
 -- After any list, the next call is refused exactly when a check of the book names that refusal, and then nothing changes.
 pub record RefusedAsBook (ty : List ℕ) (b : Book) (c : Call) : Type 0 where
@@ -76,9 +77,15 @@ pub record Bounds (ty : List ℕ) (b : Book) (k : ℕ) : Type 0 where
   pub cuts : (words pool out : List ℕ) (v : Val) (n : ℕ) → Held words pool → valueOf words pool ≡ some v → encodeKeyCall ty words pool out .answer ≡ ok n
       → Between (firstBytes k (b .fields)) (aboveField (firstBytes k (b .fields))) (take n (encodeKeyCall ty words pool out .buffer)) ↔ (firsts k (fieldsIn v) ≡ firsts k (b .fields))
 
--- All of demand 3, for two accepted encode_key calls of one record type, their lists of replacements, one call more, and a number of fields.
-pub record Demand3 (ty : List ℕ) (b d : Book) (cs ds : List Call) (c : Call) (k : ℕ) : Type 0 where
+-- Demand 3 for one accepted encode_key and one list: the list; any call more; any other such key of the type, whatever its list; any number of fields.
+pub record Demand3 (ty : List ℕ) (b : Book) (cs : List Call) : Type 0 where
   pub list : AsBook ty b cs
-  pub refusals : RefusedAsBook ty (bookAfter b cs) c
-  pub order : Ordered (bookAfter b cs) (bookAfter d ds)
-  pub bounds : k ≤ fieldCount (b .types) → Bounds ty (bookAfter b cs) k
+  pub refusals : (c : Call) → RefusedAsBook ty (bookAfter b cs) c
+  pub order : (words pool lent : List ℕ) (d : Book) (ds : List Call) → Started ty words pool lent d → AllHeld ds → Ordered (bookAfter b cs) (bookAfter d ds)
+  pub bounds : (k : ℕ) → k ≤ fieldCount (b .types) → Bounds ty (bookAfter b cs) k
+
+-- All of it: every accepted encode_key of a record type starts a book, and from there on every list keeps to it. Nothing is asked but that words and bytes are those of the code's types.
+pub record Holds : Type 0 where
+  pub starts : (ty words pool lent : List ℕ) (ts : Tys) (n : ℕ) → typeOf ty ≡ some (Ty.Record ts) → Held words pool → encodeKeyCall ty words pool lent .answer ≡ ok n
+      → (b : Book) × Started ty words pool lent b
+  pub keeps : (ty words pool lent : List ℕ) (b : Book) (cs : List Call) → Started ty words pool lent b → AllHeld cs → Demand3 ty b cs

@@ -5,3 +5,4 @@ pub mod SpanLaws
 pub mod CallLaws
 pub mod ValueLaws
 pub mod EndLaws
+pub mod ListLaws

@@ -2,3 +2,4 @@
 pub mod Laws
 pub mod Refusals
 pub mod StepLaws
+pub mod ListLaws
