@@ -1,4 +1,25 @@
-// The tuple format: its definitions stand in specs/, the laws about them in proofs/. The code here only names the format's constants.
+// The tuple format: its definitions stand in specs/, the laws about them in proofs/. The code here names the format's constants and what every crate above shares.
+ghost use mathlib.Core.Path.{_≡_};
+
+// How far a call came: bytes written, an end, a place or a used length; or a refusal and its detail.
+pub enum Length {
+    Done(usize),
+    Refused(u32, u64),
+}
+
+// A byte or a type word as a number of 64 bits.
+pub fn wide(x: u8) -> u64
+    ensures { λ r. ⌜ r ≡ x ⌝ }
+{
+    x as u64
+}
+
+pub fn wide_word(x: u32) -> u64
+    ensures { λ r. ⌜ r ≡ x ⌝ }
+{
+    x as u64
+}
+
 pub const MARK_NULL: u8 = 0x00;
 
 pub const MARK_STRING: u8 = 0x21;
@@ -66,6 +87,9 @@ pub const MAX_POOL_BYTES: usize = 1048576;
 
 // A sheet's discriminants are below it.
 pub const DISCRIMINANTS: u64 = 4294967296;
+
+// How many sequences a predicate has: what a reference leaves divided by it is its sequence, how often it goes in its predicate.
+pub const SEQUENCES: u64 = 0x1_0000_0000;
 
 pub const PREDICATE_ID_SIZE: usize = 4;
 
