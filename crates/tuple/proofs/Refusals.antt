@@ -1,9 +1,9 @@
--- Every refusal of a call has a number above 0, so refusal 0 in an answer says that the call was accepted.
+-- Every refusal of a call is one of the numbered ones, from 1 to the last; so refusal 0 in an answer says that the call was accepted.
 use mathlib.Core.Bool.{Bool, true, false, _||_, _&&_}
 use mathlib.Core.List.{List, [], _∷_}
 use mathlib.Core.Option.{Option, some, none}
 use Prim.Native.Nat.{ℕ, zero, suc, _+_, _-_, _^_, _<_}
-use lib.Dec.{ltb, leb, eqb, lit<}
+use lib.Dec.{T, ltb, leb, eqb, lit<, lit≤}
 use lib.ListN.{length, take, drop}
 use Rattle.format.specs.Answer.{if, Answer, ok, refused, andThen, noRoom, BadRecord, TypeMismatch, BadString, NoField}
 use Rattle.format.specs.Tree.{Ty, Tys, Alts, Val, Vals, valKind, numberIn, fieldsIn, payloadIn}
@@ -23,13 +23,17 @@ use Rattle.format.specs.Calls as calls
 use Rattle.format.specs.Calls.{withType, withValue, written, filled, decodedBy, checkedBy, bounded, withFields, withKey, replaced, withUsed}
 use Rattle.format.specs.Fields as fields
 use Rattle.format.specs.Fields.{takenFrom, placedFrom, hasZero, putAt}
-use Rattle.tuple.specs.Numbers.{Numbered, RefusalsNumbered}
+use Rattle.tuple.specs.Numbers.{lastRefusal, Listed, Numbered, RefusalsNumbered}
 use Rattle.tuple.specs.StepNumbers.{StepsNumbered, CharNumbered}
 use Rattle.format.specs.Cursor as cursor
 use Rattle.format.specs.Cursor.{Cursor, deep, rest, movedBy, nullAt, recordMark, tagAt, unionMark, groupEnd, endAhead, wroteAt}
 use Rattle.format.specs.Chars as chars
 
 -- ---- steps
+
+-- a number that is written out
+listed : {n : ℕ} → T (ltb 0 n) → T (leb n lastRefusal) → Listed n
+listed low high = record { some = lit< low; known = lit≤ high }
 
 numbered-if : {A : Type 0} (b : Bool) (x y : Answer A) → Numbered x → Numbered y → Numbered (if b x y)
 numbered-if true x y p q = p
@@ -41,7 +45,7 @@ numbered-then (refused n d) f p q = p
 
 abbrev Reads : {A : Type 0} → Read A → Type 0
 Reads (Read.got a r) = Unit
-Reads (Read.bad n d) = 0 < n
+Reads (Read.bad n d) = Listed n
 
 reads-if : {A : Type 0} (b : Bool) (x y : Read A) → Reads x → Reads y → Reads (if b x y)
 reads-if true x y p q = p
@@ -53,7 +57,7 @@ reads-then (Read.bad n d) f p q = p
 
 abbrev Decodes : {A : Type 0} → Decoded A → Type 0
 Decodes (Decoded.got a r k) = Unit
-Decodes (Decoded.bad n d k) = 0 < n
+Decodes (Decoded.bad n d k) = Listed n
 
 decodes-if : {A : Type 0} (b : Bool) (x y : Decoded A) → Decodes x → Decodes y → Decodes (if b x y)
 decodes-if true x y p q = p
@@ -63,18 +67,18 @@ decodes-if false x y p q = q
 
 big : (w : ℕ) (bs : List ℕ) → Reads (getBig w bs)
 unfolding getBig
-big w bs = reads-if (leb w (length bs)) _ _ tt (lit< tt)
+big w bs = reads-if (leb w (length bs)) _ _ tt (listed tt tt)
 
 width : (w n : ℕ) (r : List ℕ) → Reads (widthIs w n r)
 unfolding widthIs
-width w n r = reads-if (eqb (intWidth n) w) _ _ tt (lit< tt)
+width w n r = reads-if (eqb (intWidth n) w) _ _ tt (listed tt tt)
 
 uint : (bs : List ℕ) → Reads (getUint bs)
 unfolding getUint
-uint [] = lit< tt
+uint [] = listed tt tt
 uint (m ∷ bs) =
-    reads-if (ltb m 0x48) _ _ (lit< tt)
-    (reads-if (leb m 0x50) _ _ (reads-then (getBig (m - 0x48) bs) _ (big (m - 0x48) bs) (λ n r. width (m - 0x48) n r)) (lit< tt))
+    reads-if (ltb m 0x48) _ _ (listed tt tt)
+    (reads-if (leb m 0x50) _ _ (reads-then (getBig (m - 0x48) bs) _ (big (m - 0x48) bs) (λ n r. width (m - 0x48) n r)) (listed tt tt))
 
 neg : (w : ℕ) (bs : List ℕ) → Reads (getNeg w bs)
 unfolding getNeg
@@ -82,11 +86,11 @@ neg w bs = reads-then (getBig w bs) _ (big w bs) (λ n r. width w (256 ^ w - 1 -
 
 int : (bs : List ℕ) → Reads (getInt bs)
 unfolding getInt
-int [] = lit< tt
+int [] = listed tt tt
 int (m ∷ bs) =
-    reads-if (ltb m 0x40) _ _ (lit< tt)
-    (reads-if (ltb m 0x48) _ _ (reads-then (getNeg (0x48 - m) bs) _ (neg (0x48 - m) bs) (λ n r. reads-if (leb n (2 ^ 63)) _ _ tt (lit< tt)))
-    (reads-then (getUint (m ∷ bs)) _ (uint (m ∷ bs)) (λ n r. reads-if (ltb n (2 ^ 63)) _ _ tt (lit< tt))))
+    reads-if (ltb m 0x40) _ _ (listed tt tt)
+    (reads-if (ltb m 0x48) _ _ (reads-then (getNeg (0x48 - m) bs) _ (neg (0x48 - m) bs) (λ n r. reads-if (leb n (2 ^ 63)) _ _ tt (listed tt tt)))
+    (reads-then (getUint (m ∷ bs)) _ (uint (m ∷ bs)) (λ n r. reads-if (ltb n (2 ^ 63)) _ _ tt (listed tt tt))))
 
 cons : (b : ℕ) (m : Read (List ℕ)) → Reads m → Reads (consRead b m)
 cons b (Read.got s r) p = tt
@@ -96,7 +100,7 @@ mutual
   unfolding getRun
 
   run : (bs : List ℕ) → Reads (getRun bs)
-  run [] = lit< tt
+  run [] = listed tt tt
   run (b ∷ bs) = reads-if (eqb b 0) _ _ (zero-then bs) (cons b (getRun bs) (run bs))
 
   zero-then : (bs : List ℕ) → Reads (afterZero bs)
@@ -104,12 +108,12 @@ mutual
   zero-then (b ∷ bs) = reads-if (eqb b 0xFF) _ _ (cons 0 (getRun bs) (run bs)) tt
 
 mark : {A : Type 0} (m : ℕ) (f : List ℕ → Read A) (bs : List ℕ) → ((r : List ℕ) → Reads (f r)) → Reads (marked m f bs)
-mark m f [] p = lit< tt
-mark m f (b ∷ bs) p = reads-if (eqb b m) _ _ (p bs) (lit< tt)
+mark m f [] p = listed tt tt
+mark m f (b ∷ bs) p = reads-if (eqb b m) _ _ (p bs) (listed tt tt)
 
 str : (bs : List ℕ) → Reads (getStr bs)
 unfolding getStr
-str bs = mark 0x21 _ bs (λ r. reads-then (getRun r) _ (run r) (λ s more. reads-if (utf8 s) _ _ tt (lit< tt)))
+str bs = mark 0x21 _ bs (λ r. reads-then (getRun r) _ (run r) (λ s more. reads-if (utf8 s) _ _ tt (listed tt tt)))
 
 bytes : (bs : List ℕ) → Reads (getBytes bs)
 unfolding getBytes
@@ -117,7 +121,7 @@ bytes bs = mark 0x53 _ bs run
 
 fits-ref : (p r : ℕ) → Numbered (fitsRef p r)
 unfolding fitsRef
-fits-ref p r = numbered-if (eqb (sequenceOf r) 0) _ _ (lit< tt) (numbered-if (eqb (predicateOf r) p) _ _ tt (lit< tt))
+fits-ref p r = numbered-if (eqb (sequenceOf r) 0) _ _ (listed tt tt) (numbered-if (eqb (predicateOf r) p) _ _ tt (listed tt tt))
 
 judged : (r : ℕ) (more : List ℕ) (a : Answer Unit) → Numbered a → Reads (refRead r more a)
 judged r more (ok u) p = tt
@@ -143,17 +147,17 @@ boths (Decoded.bad n d k) f g p q = p
 
 ends : {A : Type 0} (m : Decoded A) → Decodes m → Decodes (unionEnd m)
 unfolding unionEnd
-ends (Decoded.got a [] k) p = lit< tt
-ends (Decoded.got a (b ∷ bs) k) p = decodes-if (endsHere (b ∷ bs)) _ _ tt (lit< tt)
+ends (Decoded.got a [] k) p = listed tt tt
+ends (Decoded.got a (b ∷ bs) k) p = decodes-if (endsHere (b ∷ bs)) _ _ tt (listed tt tt)
 ends (Decoded.bad n d k) p = p
 
 opens : {A : Type 0} (m : ℕ) (f : List ℕ → Decoded A) (bs : List ℕ) → ((r : List ℕ) → Decodes (f r)) → Decodes (opened m f bs)
-opens m f [] p = lit< tt
-opens m f (b ∷ bs) p = decodes-if (eqb b m) _ _ (p bs) (lit< tt)
+opens m f [] p = listed tt tt
+opens m f (b ∷ bs) p = decodes-if (eqb b m) _ _ (p bs) (listed tt tt)
 
 tags : {A : Type 0} (depth : ℕ) (m : Read ℕ) (f : ℕ → List ℕ → Decoded A) → Reads m → ((t : ℕ) (r : List ℕ) → Decodes (f t r)) → Decodes (withTag depth m f)
 tags depth (Read.bad n d) f p q = p
-tags depth (Read.got t r) f p q = decodes-if (ltb depth maxDepth) _ _ (q t r) (lit< tt)
+tags depth (Read.got t r) f p q = decodes-if (ltb depth maxDepth) _ _ (q t r) (listed tt tt)
 
 mutual
   unfolding decode
@@ -164,18 +168,18 @@ mutual
   decodes Ty.Bytes depth bs = scalars Val.Bytes (getBytes bs) (bytes bs)
   decodes (Ty.Ref p) depth bs = scalars Val.Ref (getRef p bs) (ref p bs)
   decodes (Ty.Record ts) depth bs =
-      opens 0x22 _ bs (λ r. decodes-if (ltb depth maxDepth) _ _ (afters 1 Val.Record (decodeGroup ts (depth + 1) r) (group ts (depth + 1) r)) (lit< tt))
+      opens 0x22 _ bs (λ r. decodes-if (ltb depth maxDepth) _ _ (afters 1 Val.Record (decodeGroup ts (depth + 1) r) (group ts (depth + 1) r)) (listed tt tt))
   decodes (Ty.Union alts) depth bs = opens 0x52 _ bs (λ r. tags depth (getUint r) _ (uint r) (λ t more. union alts depth t more))
 
   group : (ts : Tys) (depth : ℕ) (bs : List ℕ) → Decodes (decodeGroup ts depth bs)
-  group Tys.NoTy depth [] = lit< tt
-  group Tys.NoTy depth (b ∷ bs) = decodes-if (endsHere (b ∷ bs)) _ _ tt (lit< tt)
-  group (Tys.AddTy t ts) depth [] = lit< tt
+  group Tys.NoTy depth [] = listed tt tt
+  group Tys.NoTy depth (b ∷ bs) = decodes-if (endsHere (b ∷ bs)) _ _ tt (listed tt tt)
+  group (Tys.AddTy t ts) depth [] = listed tt tt
   group (Tys.AddTy t ts) depth (b ∷ bs) =
-      decodes-if (endsHere (b ∷ bs)) _ _ (lit< tt) (boths (decode t depth (b ∷ bs)) _ Vals.AddVal (decodes t depth (b ∷ bs)) (λ r. group ts depth r))
+      decodes-if (endsHere (b ∷ bs)) _ _ (listed tt tt) (boths (decode t depth (b ∷ bs)) _ Vals.AddVal (decodes t depth (b ∷ bs)) (λ r. group ts depth r))
 
   union : (alts : Alts) (depth tag : ℕ) (bs : List ℕ) → Decodes (decodeUnion alts depth tag bs)
-  union Alts.NoAlt depth tag bs = lit< tt
+  union Alts.NoAlt depth tag bs = listed tt tt
   union (Alts.AddAlt e t alts) depth tag bs =
       decodes-if (eqb e tag) _ _ (afters 1 (Val.Union tag) (unionEnd (decode t (depth + 1) bs)) (ends (decode t (depth + 1) bs) (decodes t (depth + 1) bs))) (union alts depth tag bs)
 
@@ -187,7 +191,7 @@ bare (Tys.AddTy t ts) bs = boths (decode t 0 bs) _ Vals.AddVal (decodes t 0 bs) 
 wholes : {A : Type 0} (m : Decoded A) → Decodes m → Decodes (whole m)
 unfolding whole
 wholes (Decoded.got a [] k) p = tt
-wholes (Decoded.got a (b ∷ bs) k) p = lit< tt
+wholes (Decoded.got a (b ∷ bs) k) p = listed tt tt
 wholes (Decoded.bad n d k) p = p
 
 key : (t : Ty) (bs : List ℕ) → Decodes (decodeKey t bs)
@@ -202,15 +206,15 @@ key (Ty.Union alts) bs = wholes _ (decodes (Ty.Union alts) 0 bs)
 -- ---- encoding
 
 kinds : (k : ℕ) (v : Val) (a : Answer Unit) → Numbered a → Numbered (ofKind k v a)
-kinds k v a p = numbered-if (eqb (valKind v) k) _ _ p (lit< tt)
+kinds k v a p = numbered-if (eqb (valKind v) k) _ _ p (listed tt tt)
 
 groups : {A : Type 0} (depth : ℕ) (a : Answer A) → Numbered a → Numbered (groupAt depth a)
-groups depth a p = numbered-if (ltb depth maxDepth) _ _ p (lit< tt)
+groups depth a p = numbered-if (ltb depth maxDepth) _ _ p (listed tt tt)
 
 unions : {A : Type 0} (tag : ℕ) (a : Answer A) → Numbered a → Numbered (inUnion tag a)
 unfolding inUnion
 unions tag (ok a) p = tt
-unions tag (refused n d) p = numbered-if (eqb n BadRecord) _ _ (lit< tt) (numbered-if (eqb n TypeMismatch) _ _ (lit< tt) p)
+unions tag (refused n d) p = numbered-if (eqb n BadRecord) _ _ (listed tt tt) (numbered-if (eqb n TypeMismatch) _ _ (listed tt tt) p)
 
 mutual
   unfolding fits
@@ -220,17 +224,17 @@ mutual
   fitting Ty.Str depth v = kinds 2 v fine tt
   fitting Ty.Bytes depth v = kinds 3 v fine tt
   fitting (Ty.Ref p) depth v = kinds 4 v (fitsRef p (numberIn v)) (fits-ref p (numberIn v))
-  fitting (Ty.Record ts) depth v = kinds 5 v _ (numbered-if (eqb (fieldCount ts) (valCount (fieldsIn v))) _ _ (groups depth (fitsAll ts (depth + 1) (fieldsIn v)) (fittingAll ts (depth + 1) (fieldsIn v))) (lit< tt))
+  fitting (Ty.Record ts) depth v = kinds 5 v _ (numbered-if (eqb (fieldCount ts) (valCount (fieldsIn v))) _ _ (groups depth (fitsAll ts (depth + 1) (fieldsIn v)) (fittingAll ts (depth + 1) (fieldsIn v))) (listed tt tt))
   fitting (Ty.Union alts) depth v = kinds 6 v _ (fittingUnion alts depth (numberIn v) (payloadIn v))
 
   fittingAll : (ts : Tys) (depth : ℕ) (vs : Vals) → Numbered (fitsAll ts depth vs)
   fittingAll Tys.NoTy depth Vals.NoVal = tt
-  fittingAll Tys.NoTy depth (Vals.AddVal v vs) = lit< tt
-  fittingAll (Tys.AddTy t ts) depth Vals.NoVal = lit< tt
+  fittingAll Tys.NoTy depth (Vals.AddVal v vs) = listed tt tt
+  fittingAll (Tys.AddTy t ts) depth Vals.NoVal = listed tt tt
   fittingAll (Tys.AddTy t ts) depth (Vals.AddVal v vs) = numbered-then (fits t depth v) _ (fitting t depth v) (λ u. fittingAll ts depth vs)
 
   fittingUnion : (alts : Alts) (depth disc : ℕ) (v : Val) → Numbered (fitsUnion alts depth disc v)
-  fittingUnion Alts.NoAlt depth disc v = lit< tt
+  fittingUnion Alts.NoAlt depth disc v = listed tt tt
   fittingUnion (Alts.AddAlt e t alts) depth disc v =
       numbered-if (eqb e disc) _ _ (unions disc _ (groups depth (fits t (depth + 1) v) (fitting t (depth + 1) v))) (fittingUnion alts depth disc v)
 
@@ -247,13 +251,13 @@ key-bytes (Ty.Ref p) v = encodes (Ty.Ref p) v
 key-bytes (Ty.Record ts) v =
     let counted : Answer Unit = if (eqb (fieldCount ts) (valCount (fieldsIn v))) (fitsAll ts 0 (fieldsIn v)) (refused BadRecord 0) in
     numbered-then (ofKind 5 v counted) (λ u. ok (valsBytes 0 (fieldsIn v)))
-    (kinds 5 v counted (numbered-if (eqb (fieldCount ts) (valCount (fieldsIn v))) (fitsAll ts 0 (fieldsIn v)) (refused BadRecord 0) (fittingAll ts 0 (fieldsIn v)) (lit< tt)))
+    (kinds 5 v counted (numbered-if (eqb (fieldCount ts) (valCount (fieldsIn v))) (fitsAll ts 0 (fieldsIn v)) (refused BadRecord 0) (fittingAll ts 0 (fieldsIn v)) (listed tt tt)))
     (λ u. tt)
 key-bytes (Ty.Union alts) v = encodes (Ty.Union alts) v
 
 encodes-key : (t : Ty) (v : Val) → Numbered (encodeKey t v)
 unfolding encodeKey
-encodes-key t v = numbered-then (keyBytes t v) _ (key-bytes t v) (λ bs. numbered-if (leb (length bs) maxKeyBytes) _ _ tt (lit< tt))
+encodes-key t v = numbered-then (keyBytes t v) _ (key-bytes t v) (λ bs. numbered-if (leb (length bs) maxKeyBytes) _ _ tt (listed tt tt))
 
 -- ---- skipping
 
@@ -263,24 +267,24 @@ passes w depth bs = reads-then (getBig w bs) _ (big w bs) (λ n r. tt)
 passes-field : (escape : Bool) (depth m : ℕ) (bs : List ℕ) → Reads (passField escape depth m bs)
 unfolding passField
 passes-field escape depth m bs =
-    reads-if (eqb m 0x00) _ _ (reads-if (escape || ltb 0 depth) _ _ (reads-if (startsFF bs) _ _ tt (lit< tt)) tt)
+    reads-if (eqb m 0x00) _ _ (reads-if (escape || ltb 0 depth) _ _ (reads-if (startsFF bs) _ _ tt (listed tt tt)) tt)
     (reads-if (eqb m 0x21 || eqb m 0x53) _ _ (reads-then (getRun bs) _ (run bs) (λ s r. tt))
-    (reads-if (eqb m 0x22) _ _ (reads-if (ltb depth maxDepth) _ _ tt (lit< tt))
-    (reads-if (ltb m 0x40) _ _ (lit< tt)
+    (reads-if (eqb m 0x22) _ _ (reads-if (ltb depth maxDepth) _ _ tt (listed tt tt))
+    (reads-if (ltb m 0x40) _ _ (listed tt tt)
     (reads-if (ltb m 0x48) _ _ (passes (0x48 - m) depth bs)
     (reads-if (leb m 0x50) _ _ (passes (m - 0x48) depth bs)
     (reads-if (eqb m 0x51) _ _ (passes 8 depth bs)
-    (reads-if (eqb m 0x52) _ _ (reads-if (ltb depth maxDepth) _ _ (reads-then (getUint bs) _ (uint bs) (λ d r. tt)) (lit< tt))
-    (lit< tt))))))))
+    (reads-if (eqb m 0x52) _ _ (reads-if (ltb depth maxDepth) _ _ (reads-then (getUint bs) _ (uint bs) (λ d r. tt)) (listed tt tt))
+    (listed tt tt))))))))
 
 turns : (escape : Bool) (depth : ℕ) (bs : List ℕ) → Reads (turn escape depth bs)
 unfolding turn
-turns escape depth [] = lit< tt
+turns escape depth [] = listed tt tt
 turns escape depth (m ∷ bs) = reads-if (ltb 0 depth && endsHere (m ∷ bs)) _ _ tt (passes-field escape depth m bs)
 
 walks : (n : ℕ) (escape : Bool) (depth : ℕ) (bs : List ℕ) → Reads (walk n escape depth bs)
 unfolding walk
-walks zero escape depth bs = lit< tt
+walks zero escape depth bs = listed tt tt
 walks (suc n) escape depth bs = reads-then (turn escape depth bs) _ (turns escape depth bs) (λ d r. reads-if (eqb d 0) _ _ tt (walks n escape d r))
 
 end-of : (key : List ℕ) (m : Read Unit) → Reads m → Numbered (endOf key m)
@@ -295,18 +299,18 @@ skips key start escape = end-of key (walk (suc (length (drop start key))) escape
 
 typed : {A : Type 0} (t : Option Ty) (f : Ty → Answer A) → ((t : Ty) → Numbered (f t)) → Numbered (withType t f)
 typed (some t) f p = p t
-typed none f p = lit< tt
+typed none f p = listed tt tt
 
 valued : {A : Type 0} (v : Option Val) (f : Val → Answer A) → ((v : Val) → Numbered (f v)) → Numbered (withValue v f)
 valued (some v) f p = p v
-valued none f p = lit< tt
+valued none f p = listed tt tt
 
 called-if : (b : Bool) (x y : calls.Called ℕ) → Numbered (x .answer) → Numbered (y .answer) → Numbered (if b x y .answer)
 called-if true x y p q = p
 called-if false x y p q = q
 
 writes : (out : List ℕ) (a : Answer (List ℕ)) → Numbered a → Numbered (written out a .answer)
-writes out (ok x) p = called-if (leb (length x) (length out)) _ _ tt (lit< tt)
+writes out (ok x) p = called-if (leb (length x) (length out)) _ _ tt (listed tt tt)
 writes out (refused n d) p = p
 
 filled-if : (b : Bool) (x y : calls.Filled) → Numbered (x .answer) → Numbered (y .answer) → Numbered (if b x y .answer)
@@ -314,12 +318,12 @@ filled-if true x y p q = p
 filled-if false x y p q = q
 
 fills : (words pool : List ℕ) (m : Decoded Val) → Decodes m → Numbered (filled words pool m .answer)
-fills words pool (Decoded.got v r k) p = filled-if (ltb (length words) (length (valWords v))) _ _ (lit< tt) (filled-if (ltb (length pool) (length (valPool v))) _ _ (lit< tt) tt)
+fills words pool (Decoded.got v r k) p = filled-if (ltb (length words) (length (valWords v))) _ _ (listed tt tt) (filled-if (ltb (length pool) (length (valPool v))) _ _ (listed tt tt) tt)
 fills words pool (Decoded.bad n d k) p = p
 
 decoded : (t : Option Ty) (f : Ty → Decoded Val) → ((t : Ty) → Decodes (f t)) → Decodes (decodedBy t f)
 decoded (some t) f p = p t
-decoded none f p = lit< tt
+decoded none f p = listed tt tt
 
 checks : (m : Decoded Val) → Decodes m → Numbered (checkedBy m .answer)
 checks (Decoded.got v r k) p = tt
@@ -330,23 +334,23 @@ bounded-if true x y p q = p
 bounded-if false x y p q = q
 
 bounds : (lower upper : List ℕ) (a : Answer (List ℕ)) → Numbered a → Numbered (bounded lower upper a .answer)
-bounds lower upper (ok x) p = bounded-if (ltb (length lower) (length x)) _ _ (lit< tt) (bounded-if (ltb (length upper) (length (aboveField x))) _ _ (lit< tt) tt)
+bounds lower upper (ok x) p = bounded-if (ltb (length lower) (length x)) _ _ (listed tt tt) (bounded-if (ltb (length upper) (length (aboveField x))) _ _ (listed tt tt) tt)
 bounds lower upper (refused n d) p = p
 
 fields-of : {A : Type 0} (t : Ty) (f : Tys → Answer A) → ((ts : Tys) → Numbered (f ts)) → Numbered (withFields t f)
-fields-of Ty.Int f p = lit< tt
-fields-of Ty.Str f p = lit< tt
-fields-of Ty.Bytes f p = lit< tt
-fields-of (Ty.Ref n) f p = lit< tt
+fields-of Ty.Int f p = listed tt tt
+fields-of Ty.Str f p = listed tt tt
+fields-of Ty.Bytes f p = listed tt tt
+fields-of (Ty.Ref n) f p = listed tt tt
 fields-of (Ty.Record ts) f p = p ts
-fields-of (Ty.Union alts) f p = lit< tt
+fields-of (Ty.Union alts) f p = listed tt tt
 
 keyed : {A : Type 0} (m : Decoded Val) (f : Vals → Answer A) → Decodes m → ((vs : Vals) → Numbered (f vs)) → Numbered (withKey m f)
 keyed (Decoded.got v r k) f p q = q (fieldsIn v)
 keyed (Decoded.bad n d k) f p q = p
 
 raises : (s : List ℕ) → Numbered (raisedOr s)
-raises [] = lit< tt
+raises [] = listed tt tt
 raises (b ∷ bs) = tt
 
 takes : {A : Type 0} (bs : List ℕ) (m : Read A) → Reads m → Numbered (takenFrom bs m)
@@ -358,11 +362,11 @@ payload-if true x y p q = p
 payload-if false x y p q = q
 
 places : (at : ℕ) (bs scratch : List ℕ) (m : Read (List ℕ)) → Reads m → Numbered (placedFrom at bs scratch m .answer)
-places at bs scratch (Read.got s r) p = payload-if (hasZero s) _ _ (payload-if (leb (length s) (length scratch)) _ _ tt (lit< tt)) tt
+places at bs scratch (Read.got s r) p = payload-if (hasZero s) _ _ (payload-if (leb (length s) (length scratch)) _ _ tt (listed tt tt)) tt
 places at bs scratch (Read.bad n d) p = p
 
 puts : (out : List ℕ) (at : ℕ) (bs : List ℕ) → Numbered (putAt out at bs .answer)
-puts out at bs = called-if (ltb (length out) at) _ _ (lit< tt) (called-if (ltb (length out) (at + length bs)) _ _ (lit< tt) tt)
+puts out at bs = called-if (ltb (length out) at) _ _ (listed tt tt) (called-if (ltb (length out) (at + length bs)) _ _ (listed tt tt) tt)
 
 -- ---- the calls
 
@@ -383,7 +387,7 @@ with-key-of ty bs test f p =
     typed (typeOf ty) (λ t. withFields t (λ ts. if (test ts) (withKey (decodeKey (Ty.Record ts) bs) (λ vs. f ts vs)) (refused NoField 0)))
     (λ t. fields-of t (λ ts. if (test ts) (withKey (decodeKey (Ty.Record ts) bs) (λ vs. f ts vs)) (refused NoField 0))
     (λ ts. numbered-if (test ts) (withKey (decodeKey (Ty.Record ts) bs) (λ vs. f ts vs)) (refused NoField 0)
-    (keyed (decodeKey (Ty.Record ts) bs) (λ vs. f ts vs) (key (Ty.Record ts) bs) (λ vs. p ts vs)) (lit< tt)))
+    (keyed (decodeKey (Ty.Record ts) bs) (λ vs. f ts vs) (key (Ty.Record ts) bs) (λ vs. p ts vs)) (listed tt tt)))
 
 abbrev changed : (words pool : List ℕ) (field : ℕ) → Tys → Vals → List ℕ → Answer (List ℕ)
 changed words pool field ts vs bs = withValue (valueOf words pool) (λ u. replaced ts field u vs bs)
@@ -405,8 +409,8 @@ field-of buffer used field words pool ts =
     let bs : List ℕ = take used buffer in
     numbered-if (ltb field (fieldCount ts)) (withUsed buffer used (λ b. withKey (decodeKey (Ty.Record ts) b) (λ vs. changed words pool field ts vs b))) (refused NoField 0)
     (numbered-if (leb used (length buffer)) (withKey (decodeKey (Ty.Record ts) bs) (λ vs. changed words pool field ts vs bs)) (noRoom used)
-    (keyed (decodeKey (Ty.Record ts) bs) (λ vs. changed words pool field ts vs bs) (key (Ty.Record ts) bs) (λ vs. changed-numbered words pool field ts vs bs)) (lit< tt))
-    (lit< tt)
+    (keyed (decodeKey (Ty.Record ts) bs) (λ vs. changed words pool field ts vs bs) (key (Ty.Record ts) bs) (λ vs. changed-numbered words pool field ts vs bs)) (listed tt tt))
+    (listed tt tt)
 
 replaces : (ty buffer : List ℕ) (used field : ℕ) (words pool : List ℕ) → Numbered (withType (typeOf ty) (λ t. withFields t (fieldOf buffer used field words pool)))
 replaces ty buffer used field words pool =
@@ -437,7 +441,7 @@ refusals-numbered =
       get-bytes = λ bs scratch. places 0 bs scratch (getBytes bs) (bytes bs);
       put-i64 = λ out at w. puts out at (intBytes w);
       put-u64 = λ out at n. puts out at (uintBytes n);
-      put-str = λ out at text. called-if (utf8 text) (putAt out at (strBytes text)) (record { answer = refused BadString 0; buffer = out }) (puts out at (strBytes text)) (lit< tt);
+      put-str = λ out at text. called-if (utf8 text) (putAt out at (strBytes text)) (record { answer = refused BadString 0; buffer = out }) (puts out at (strBytes text)) (listed tt tt);
       put-bytes = λ out at s. puts out at (bytesBytes s);
       put-fact-id = λ out at r. puts out at (refBytes r);
     }
@@ -446,30 +450,30 @@ refusals-numbered =
 
 fact-id : (bs : List ℕ) → Reads (getFactId bs)
 unfolding getFactId
-fact-id bs = mark 0x51 _ bs (λ b. reads-then (getBig 8 b) _ (big 8 b) (λ r more. reads-if (eqb (sequenceOf r) 0) _ _ (lit< tt) tt))
+fact-id bs = mark 0x51 _ bs (λ b. reads-then (getBig 8 b) _ (big 8 b) (λ r more. reads-if (eqb (sequenceOf r) 0) _ _ (listed tt tt) tt))
 
 null : (depth : ℕ) (bs : List ℕ) → Reads (nullAt depth bs)
-null depth [] = lit< tt
-null depth (b ∷ bs) = reads-if (eqb b 0) _ _ (reads-if (ltb 0 depth) _ _ (reads-if (startsFF bs) _ _ tt (lit< tt)) tt) (lit< tt)
+null depth [] = listed tt tt
+null depth (b ∷ bs) = reads-if (eqb b 0) _ _ (reads-if (ltb 0 depth) _ _ (reads-if (startsFF bs) _ _ tt (listed tt tt)) tt) (listed tt tt)
 
 record-mark : (depth : ℕ) (bs : List ℕ) → Reads (recordMark depth bs)
-record-mark depth [] = lit< tt
-record-mark depth (b ∷ bs) = reads-if (eqb b 0x22) _ _ (reads-if (ltb depth maxDepth) _ _ tt (lit< tt)) (lit< tt)
+record-mark depth [] = listed tt tt
+record-mark depth (b ∷ bs) = reads-if (eqb b 0x22) _ _ (reads-if (ltb depth maxDepth) _ _ tt (listed tt tt)) (listed tt tt)
 
 tag : (depth : ℕ) (m : Read ℕ) → Reads m → Reads (tagAt depth m)
-tag depth (Read.got t r) p = reads-if (ltb depth maxDepth) _ _ tt (lit< tt)
+tag depth (Read.got t r) p = reads-if (ltb depth maxDepth) _ _ tt (listed tt tt)
 tag depth (Read.bad n d) p = p
 
 union-mark : (depth : ℕ) (bs : List ℕ) → Reads (unionMark depth bs)
-union-mark depth [] = lit< tt
-union-mark depth (b ∷ bs) = reads-if (eqb b 0x52) _ _ (tag depth (getUint bs) (uint bs)) (lit< tt)
+union-mark depth [] = listed tt tt
+union-mark depth (b ∷ bs) = reads-if (eqb b 0x52) _ _ (tag depth (getUint bs) (uint bs)) (listed tt tt)
 
 group-end : (bs : List ℕ) → Reads (groupEnd bs)
-group-end [] = lit< tt
-group-end (b ∷ bs) = reads-if (endsHere (b ∷ bs)) _ _ tt (lit< tt)
+group-end [] = listed tt tt
+group-end (b ∷ bs) = reads-if (endsHere (b ∷ bs)) _ _ tt (listed tt tt)
 
 end-ahead : (bs : List ℕ) → Numbered (endAhead bs)
-end-ahead [] = lit< tt
+end-ahead [] = listed tt tt
 end-ahead (b ∷ bs) = tt
 
 moves : {A : Type 0} (bs : List ℕ) (c : Cursor) (depth : ℕ) (m : Read A) → Reads m → Numbered (movedBy bs c depth m)
@@ -489,10 +493,10 @@ chars-if false x y p q = q
 
 step-on : (at : ℕ) (bs : List ℕ) → CharNumbered (chars.stepOn at bs .step)
 unfolding chars.stepOn
-step-on at [] = lit< tt
+step-on at [] = listed tt tt
 step-on at (b ∷ bs) =
     chars-if (eqb b 0) _ _ (chars-if (startsFF bs) _ _ tt tt)
-    (chars-if (ltb (length (b ∷ bs)) (chars.leadWidth b)) _ _ (lit< tt) (chars-if (utf8 (take (chars.leadWidth b) (b ∷ bs))) _ _ tt (lit< tt)))
+    (chars-if (ltb (length (b ∷ bs)) (chars.leadWidth b)) _ _ (listed tt tt) (chars-if (utf8 (take (chars.leadWidth b) (b ∷ bs))) _ _ tt (listed tt tt)))
 
 char-step : (s : List ℕ) (at : ℕ) (done : Bool) → CharNumbered (chars.stepAt s at done .step)
 unfolding chars.stepAt
@@ -501,8 +505,8 @@ char-step s at false = step-on at (drop at s)
 
 opening : (bs : List ℕ) → Numbered (chars.opened bs)
 unfolding chars.opened
-opening [] = lit< tt
-opening (m ∷ bs) = numbered-if (eqb m 0x21) _ _ tt (lit< tt)
+opening [] = listed tt tt
+opening (m ∷ bs) = numbered-if (eqb m 0x21) _ _ tt (listed tt tt)
 
 pub steps-numbered : StepsNumbered
 unfolding cursor.takeNull cursor.takeI64 cursor.takeU64 cursor.takeFactId cursor.takeStr cursor.takeBytes cursor.openRecord cursor.openUnion cursor.close cursor.isRecordEnd cursor.putNull cursor.putRecord cursor.putUnion cursor.putEnd
@@ -516,12 +520,12 @@ steps-numbered =
       take-bytes = λ bs c scratch. numbered-then (placedFrom (c .at) (rest bs c) scratch (getBytes (rest bs c)) .answer) _ (places (c .at) (rest bs c) scratch (getBytes (rest bs c)) (bytes (rest bs c))) (λ t. tt);
       open-record = λ bs c. moves (rest bs c) c (deep c + 1) (recordMark (deep c) (rest bs c)) (record-mark (deep c) (rest bs c));
       open-union = λ bs c. moves (rest bs c) c (deep c + 1) (unionMark (deep c) (rest bs c)) (union-mark (deep c) (rest bs c));
-      close = λ bs c. numbered-if (eqb (c .depth) 0) _ _ (lit< tt) (moves (rest bs c) c (deep c - 1) (groupEnd (rest bs c)) (group-end (rest bs c)));
+      close = λ bs c. numbered-if (eqb (c .depth) 0) _ _ (listed tt tt) (moves (rest bs c) c (deep c - 1) (groupEnd (rest bs c)) (group-end (rest bs c)));
       is-record-end = λ bs c. numbered-if (eqb (c .depth) 0) _ _ tt (end-ahead (rest bs c));
       put-null = λ out c. wrote (deep c) (putAt out (c .at) (nullBytes (deep c))) (puts out (c .at) (nullBytes (deep c)));
-      put-record = λ out c. wrote-if (ltb (deep c) maxDepth) _ _ (wrote (deep c + 1) (putAt out (c .at) (0x22 ∷ [])) (puts out (c .at) (0x22 ∷ []))) (lit< tt);
-      put-union = λ out c disc. wrote-if (ltb (deep c) maxDepth) _ _ (wrote (deep c + 1) (putAt out (c .at) (tagBytes disc)) (puts out (c .at) (tagBytes disc))) (lit< tt);
-      put-end = λ out c. wrote-if (eqb (c .depth) 0) _ _ (lit< tt) (wrote (deep c - 1) (putAt out (c .at) (0 ∷ [])) (puts out (c .at) (0 ∷ [])));
+      put-record = λ out c. wrote-if (ltb (deep c) maxDepth) _ _ (wrote (deep c + 1) (putAt out (c .at) (0x22 ∷ [])) (puts out (c .at) (0x22 ∷ []))) (listed tt tt);
+      put-union = λ out c disc. wrote-if (ltb (deep c) maxDepth) _ _ (wrote (deep c + 1) (putAt out (c .at) (tagBytes disc)) (puts out (c .at) (tagBytes disc))) (listed tt tt);
+      put-end = λ out c. wrote-if (eqb (c .depth) 0) _ _ (listed tt tt) (wrote (deep c - 1) (putAt out (c .at) (0 ∷ [])) (puts out (c .at) (0 ∷ [])));
       str-chars = λ bs. opening bs;
       chars-next = λ bs at done. char-step bs at done;
     }

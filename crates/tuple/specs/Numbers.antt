@@ -3,9 +3,9 @@
 use mathlib.Core.Path.{_≡_}
 use mathlib.Core.List.{List, []}
 use mathlib.Core.Bool.{Bool}
-use Prim.Native.Nat.{ℕ, _<_, Ordering, Ordering·lt, Ordering·eq, Ordering·gt}
+use Prim.Native.Nat.{ℕ, _<_, _≤_, Ordering, Ordering·lt, Ordering·eq, Ordering·gt}
 use lib.IntN.{ℤ, pos, negsuc}
-use Rattle.format.specs.Answer.{Answer, ok, refused}
+use Rattle.format.specs.Answer.{Answer, ok, refused, BadLine}
 use Rattle.format.specs.Calls as calls
 use Rattle.format.specs.Fields as fields
 use Rattle.format.specs.Fields.{Taken, Place, inKey, inScratch, Payload}
@@ -106,12 +106,20 @@ decodedNumbers x = sheetOf (decode.decodedOf x [] [] .answer) (decode.decodedOf 
 abbrev pub checkedNumbers : CheckedKey → Sheet
 checkedNumbers x = checkedOf (decode.checkedOf x .answer) (decode.checkedOf x .begun)
 
--- ---- refusal 0 says that a call was accepted
+-- ---- every refusal is one of the numbered ones; so refusal 0 says that a call was accepted
 
--- a refusal has a number above 0
+-- the last of the numbered refusals
+abbrev pub lastRefusal : ℕ
+lastRefusal = BadLine
+
+-- a number of the table of refusals, from 1 to the last
+pub record Listed (n : ℕ) : Type 0 where
+  pub some : 0 < n
+  pub known : n ≤ lastRefusal
+
 abbrev pub Numbered : {A : Type 0} → Answer A → Type 0
 Numbered (ok a) = Unit
-Numbered (refused n d) = 0 < n
+Numbered (refused n d) = Listed n
 
 -- in every call, whatever its arguments (proofs/Refusals)
 pub record RefusalsNumbered : Type 0 where

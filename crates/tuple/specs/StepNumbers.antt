@@ -3,13 +3,13 @@
 use mathlib.Core.Path.{_≡_}
 use mathlib.Core.List.{List}
 use mathlib.Core.Bool.{Bool}
-use Prim.Native.Nat.{ℕ, _<_}
+use Prim.Native.Nat.{ℕ}
 use lib.Dec.{eqb}
 use Rattle.format.specs.Answer.{if, Answer, ok, refused}
 use Rattle.format.specs.Fields.{Place, inKey, inScratch}
 use Rattle.format.specs.Cursor as cursor
 use Rattle.format.specs.Chars as chars
-use Rattle.tuple.specs.Numbers.{Numbered}
+use Rattle.tuple.specs.Numbers.{Listed, Numbered}
 use Rattle.tuple.specs.declared.answers.Length.{Length}
 use Rattle.tuple.specs.declared.answers.Number.{Number}
 use Rattle.tuple.specs.declared.steps.CursorStep.{CursorStep}
@@ -95,7 +95,7 @@ pub record StepWritten (at depth : ℕ) (w : cursor.Wrote) (r : CursorStep) (buf
 abbrev pub CharNumbered : chars.Step → Type 0
 CharNumbered (chars.Step.char code) = Unit
 CharNumbered chars.Step.end = Unit
-CharNumbered (chars.Step.bad n d) = 0 < n
+CharNumbered (chars.Step.bad n d) = Listed n
 
 -- in every step, whatever its arguments (proofs/Refusals)
 pub record StepsNumbered : Type 0 where
