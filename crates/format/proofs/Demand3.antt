@@ -21,7 +21,7 @@ use Rattle.format.specs.Bounds.{aboveField, firsts, firstBytes, Between}
 use Rattle.format.specs.Replace.{setField, spliced}
 use Rattle.format.specs.Calls.{Called, written, over, withValue, withType, replaced, encodeKeyCall, replaceCall, compareCall, boundsCall, bounded}
 use Rattle.format.specs.Book.{Call, Seen, Book, seenOf, callOn, runCalls, leftBy, leftIn, keptWith, entered, turnedTo, replyOf, seenIn, runBook, bookAfter}
-use Rattle.format.specs.Demand3.{Held, AllHeld, Started, recordOf, keyOf, AsBook, RefusedAsBook, Ordered, Bounds, Demand3, Holds}
+use Rattle.format.specs.Demand3.{Held, AllHeld, Started, recordOf, keyOf, AsBook, RefusedAsBook, Ordered, Compared, Bounds, Demand3, Holds}
 use Rattle.format.proofs.Tests.{Test, holds, fails, leb-test, ltb-test, leb-yes, ltb-no, passed}
 use Rattle.format.proofs.Sound.{Sound, AllSound}
 use Rattle.format.proofs.SoundLaws.{admitted-sound}
@@ -238,8 +238,7 @@ ordered ty b d k l =
     (key-within (Ty.Record (b .types)) (recordOf d) (keyOf d) f .0) (k .sound) (l .sound)
 
 -- and the call that compares two values says how their keys compare
-pub compared : (ty : List ℕ) (b d : Book) → Kept ty b → Kept ty d
-    → compareCall (valWords (recordOf b)) (valPool (recordOf b)) (valWords (recordOf d)) (valPool (recordOf d)) ≡ ok (cmpBytes (keyOf b) (keyOf d))
+pub compared : (ty : List ℕ) (b d : Book) → Kept ty b → Kept ty d → Compared b d
 unfolding compareCall
 compared ty b d k l =
     rw (afresh ty (b .types) (b .fields) (k .typed) (k .proper) (k .fit) (k .short), afresh ty (d .types) (d .fields) (l .typed) (l .proper) (l .fit) (l .short))
@@ -274,6 +273,10 @@ starts ty words pool lent ts n e h a = go (valueOf words pool) refl
           record { typed = e; valued = q ∙ ap some (p .0); answered = a; left = refl; held = h },
         )
 
+-- the other book after its list
+other : (ty words pool lent : List ℕ) (d : Book) (ds : List Call) → Started ty words pool lent d → AllHeld ds → Kept ty (bookAfter d ds)
+other ty words pool lent d ds s h = kept-after ty d ds (begins ty words pool lent d s) h .0
+
 keeps : (ty words pool lent : List ℕ) (b : Book) (cs : List Call) → Started ty words pool lent b → AllHeld cs → Demand3 ty b cs
 keeps ty words pool lent b cs s h =
     let kb = begins ty words pool lent b s in
@@ -281,7 +284,8 @@ keeps ty words pool lent b cs s h =
     record {
       list = as-book ty b cs kb h;
       refusals = λ c. refused-as-book ty (bookAfter b cs) c ab;
-      order = λ wordsD poolD lentD d ds sd hd. ordered ty (bookAfter b cs) (bookAfter d ds) ab (kept-after ty d ds (begins ty wordsD poolD lentD d sd) hd .0);
+      order = λ wordsD poolD lentD d ds sd hd. ordered ty (bookAfter b cs) (bookAfter d ds) ab (other ty wordsD poolD lentD d ds sd hd);
+      compares = λ wordsD poolD lentD d ds sd hd. compared ty (bookAfter b cs) (bookAfter d ds) ab (other ty wordsD poolD lentD d ds sd hd);
       bounds = λ k l. bounds ty (bookAfter b cs) k ab (subst (λ (ts : Tys). k ≤ fieldCount ts) (types-same ty (bookAfter b cs) b ab kb) l);
     }
 

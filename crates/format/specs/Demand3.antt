@@ -12,7 +12,7 @@ use Rattle.format.specs.TypeSheet.{typeOf}
 use Rattle.format.specs.ValueSheet.{valueOf}
 use Rattle.format.specs.Order.{cmpBytes, cmpVal}
 use Rattle.format.specs.Bounds.{aboveField, firsts, firstBytes, Between}
-use Rattle.format.specs.Calls.{over, encodeKeyCall, boundsCall}
+use Rattle.format.specs.Calls.{over, encodeKeyCall, compareCall, boundsCall}
 use Rattle.format.specs.Book.{Call, Book, callOn, runCalls, leftBy, leftIn, entered, runBook, bookAfter}
 
 -- ---- what the claims are about
@@ -77,11 +77,16 @@ pub record Bounds (ty : List ℕ) (b : Book) (k : ℕ) : Type 0 where
   pub cuts : (words pool out : List ℕ) (v : Val) (n : ℕ) → Held words pool → valueOf words pool ≡ some v → encodeKeyCall ty words pool out .answer ≡ ok n
       → Between (firstBytes k (b .fields)) (aboveField (firstBytes k (b .fields))) (take n (encodeKeyCall ty words pool out .buffer)) ↔ (firsts k (fieldsIn v) ≡ firsts k (b .fields))
 
+-- And so the call that compares two values, given the sheets of the two books' values, answers how the keys compare.
+abbrev pub Compared : (b d : Book) → Type 0
+Compared b d = compareCall (valWords (recordOf b)) (valPool (recordOf b)) (valWords (recordOf d)) (valPool (recordOf d)) ≡ ok (cmpBytes (keyOf b) (keyOf d))
+
 -- Demand 3 for one accepted encode_key and one list: the list; any call more; any other such key of the type, whatever its list; any number of fields.
 pub record Demand3 (ty : List ℕ) (b : Book) (cs : List Call) : Type 0 where
   pub list : AsBook ty b cs
   pub refusals : (c : Call) → RefusedAsBook ty (bookAfter b cs) c
   pub order : (words pool lent : List ℕ) (d : Book) (ds : List Call) → Started ty words pool lent d → AllHeld ds → Ordered (bookAfter b cs) (bookAfter d ds)
+  pub compares : (words pool lent : List ℕ) (d : Book) (ds : List Call) → Started ty words pool lent d → AllHeld ds → Compared (bookAfter b cs) (bookAfter d ds)
   pub bounds : (k : ℕ) → k ≤ fieldCount (b .types) → Bounds ty (bookAfter b cs) k
 
 -- All of it: every accepted encode_key of a record type starts a book, and from there on every list keeps to it. Nothing is asked but that words and bytes are those of the code's types.
