@@ -1,3 +1,4 @@
 -- The numbers of each answer, and what the exported calls promise.
 pub mod Numbers
 pub mod StepNumbers
+pub mod Lists
