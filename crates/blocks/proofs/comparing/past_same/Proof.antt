@@ -28,7 +28,11 @@ loop-less : tie.Need-loop-less Inv-loop μ-loop
 loop-less c = let e = c .before .same .ensures (c .if1 .taken) in omega arith
 
 loop-again : tie.Need-loop-again Inv-loop μ-loop
-loop-again c = let e = c .before .same .ensures (c .if1 .taken) in (omega arith, omega arith, omega arith, span-join (λ k. getD (c .before .before .before .before .before .args .a .now) k 0 ≡ getD (c .before .before .before .before .before .args .b .now) k 0) (c .before .before .before .before .before .args .from) (c .before .before .loop .i) (c .before .before .loop .i + c .before .before .before .before .before .args .k) (c .before .before .loop .inv .3) (e .2))
+loop-again c =
+    let c2 = c .before .before in
+    let c5 = c2 .before .before .before in
+    let e = c .before .same .ensures (c .if1 .taken) in
+    (omega arith, omega arith, omega arith, span-join (λ k. getD (c5 .args .a .now) k 0 ≡ getD (c5 .args .b .now) k 0) (c5 .args .from) (c2 .loop .i) (c2 .loop .i + c5 .args .k) (c2 .loop .inv .3) (e .2))
 
 returns : tie.Need-returns Inv-loop μ-loop
 returns c = c .before .before .loop .inv

@@ -61,7 +61,10 @@ loop-again c = (
 )
 
 returns-3 : tie.Need-returns-3 Inv-loop μ-loop
-returns-3 c = λ p. let e : c .before .before .before .before .args .k ≡ c .before .loop .j = omega arith in (omega arith, omega arith, rw e (c .before .loop .inv .3 p))
+returns-3 c =
+    let c1 = c .before in
+    let c4 = c1 .before .before .before in
+    λ p. let e : c4 .args .k ≡ c1 .loop .j = omega arith in (omega arith, omega arith, rw e (c1 .loop .inv .3 p))
 
 pub same-spec : {M : Type 1} → statement M
 same-spec =

@@ -19,7 +19,9 @@ abbrev μ-loop : tie.MeasureT-loop
 μ-loop dst₀ o src i₀ dst i = length src - i
 
 loop-holds : tie.Need-loop-holds Inv-loop μ-loop
-loop-holds c = (omega arith, λ k a b. absurd (omega arith), refl, sym (put-none (c .before .before .args .dst .now) (c .before .before .args .o)))
+loop-holds c =
+    let c2 = c .before .before in
+    (omega arith, λ k a b. absurd (omega arith), refl, sym (put-none (c2 .args .dst .now) (c2 .args .o)))
 
 clear-requires : tie.Need-clear-requires Inv-loop μ-loop
 clear-requires c κs = search needs
@@ -34,19 +36,36 @@ copy-to-requires : tie.Need-copy-to-requires Inv-loop μ-loop
 copy-to-requires c κs = let e = (c .before .before .clear .ensures (c .before .if1 .taken)) in (omega arith, omega arith, omega arith)
 
 add-i : tie.Need-add-i Inv-loop μ-loop
-add-i c = let e = (c .before .before .before .before .before .clear .ensures (c .before .before .before .before .if1 .taken)) in omega arith
+add-i c =
+    let c4 = c .before .before .before .before in
+    let c5 = c4 .before in
+    let e = (c5 .clear .ensures (c4 .if1 .taken)) in
+    omega arith
 
 loop-less : tie.Need-loop-less Inv-loop μ-loop
-loop-less c = let e = (c .before .before .before .before .before .clear .ensures (c .before .before .before .before .if1 .taken)) in omega arith
+loop-less c =
+    let c4 = c .before .before .before .before in
+    let c5 = c4 .before in
+    let e = (c5 .clear .ensures (c4 .if1 .taken)) in
+    omega arith
 
 loop-again : tie.Need-loop-again Inv-loop μ-loop
-loop-again c = let e = (c .before .before .before .before .before .clear .ensures (c .before .before .before .before .if1 .taken)) in let w = put-front (c .before .before .before .before .before .before .before .before .before .args .dst .now) (c .before .before .before .before .before .before .before .before .before .args .src .now) (c .before .before .before .before .before .before .before .before .before .args .o) (c .before .before .before .before .before .before .loop .i) (c .before .before .before .before .before .before .loop .i + 64) (omega arith) (e .0) (omega arith) (c .before .before .before .before .before .before .loop .inv .3) (c .before .before .copy-to .ensures) in (e .0, span-join (λ k. getD (c .before .before .before .before .before .before .before .before .before .args .src .now) k 0 ≡ 0 → ⊥) 0 (c .before .before .before .before .before .before .loop .i) (c .before .before .before .before .before .before .loop .i + 64) (c .before .before .before .before .before .before .loop .inv .1) (e .1), w .0, w .1)
+loop-again c =
+    let c4 = c .before .before .before .before in
+    let c5 = c4 .before in
+    let c6 = c5 .before in
+    let c9 = c6 .before .before .before in
+    let e = (c5 .clear .ensures (c4 .if1 .taken)) in
+    let w = put-front (c9 .args .dst .now) (c9 .args .src .now) (c9 .args .o) (c6 .loop .i) (c6 .loop .i + 64) (omega arith) (e .0) (omega arith) (c6 .loop .inv .3) (c .before .before .copy-to .ensures) in
+    (e .0, span-join (λ k. getD (c9 .args .src .now) k 0 ≡ 0 → ⊥) 0 (c6 .loop .i) (c6 .loop .i + 64) (c6 .loop .inv .1) (e .1), w .0, w .1)
 
 same-length : tie.Need-same-length Inv-loop μ-loop
 same-length c = c .before .before .loop .inv .2
 
 returns : tie.Need-returns Inv-loop μ-loop
-returns c = (c .before .before .loop .inv .0, c .before .before .loop .inv .1, c .before .before .loop .inv .3)
+returns c =
+    let c2 = c .before .before in
+    (c2 .loop .inv .0, c2 .loop .inv .1, c2 .loop .inv .3)
 
 pub copy-clear-spec : {M : Type 1} → statement M
 copy-clear-spec =

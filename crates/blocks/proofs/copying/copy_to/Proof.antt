@@ -21,19 +21,29 @@ shared-slice-read-dst : tie.Need-shared-slice-read-dst Inv-loop μ-loop
 shared-slice-read-dst c = omega arith
 
 slice-write-dst : tie.Need-slice-write-dst Inv-loop μ-loop
-slice-write-dst c = omega (arith, length-slice (c .before .before .loop .j) (c .before .before .before .args .e) (c .before .before .before .args .src .now) (omega arith), length-slice (c .before .before .before .args .i) (c .before .before .before .args .e) (c .before .before .before .args .src .now) (omega arith))
+slice-write-dst c =
+    let c3 = c .before .before .before in
+    omega (arith, length-slice (c .before .before .loop .j) (c3 .args .e) (c3 .args .src .now) (omega arith), length-slice (c3 .args .i) (c3 .args .e) (c3 .args .src .now) (omega arith))
 
 add-j : tie.Need-add-j Inv-loop μ-loop
 add-j c = omega arith
 
 add-k : tie.Need-add-k Inv-loop μ-loop
-add-k c = omega (arith, length-slice (c .before .before .loop .j) (c .before .before .before .args .e) (c .before .before .before .args .src .now) (omega arith), length-slice (c .before .before .before .args .i) (c .before .before .before .args .e) (c .before .before .before .args .src .now) (omega arith))
+add-k c =
+    let c3 = c .before .before .before in
+    omega (arith, length-slice (c .before .before .loop .j) (c3 .args .e) (c3 .args .src .now) (omega arith), length-slice (c3 .args .i) (c3 .args .e) (c3 .args .src .now) (omega arith))
 
 loop-less : tie.Need-loop-less Inv-loop μ-loop
 loop-less c = omega arith
 
 loop-again : tie.Need-loop-again Inv-loop μ-loop
-loop-again c = (omega arith, left-store (omega (arith, length-slice (c .before .before .before .args .i) (c .before .before .before .args .e) (c .before .before .before .args .src .now) (omega arith))) (rw (slice-one (c .before .before .before .args .src .now) (c .before .before .loop .j) (c .before .before .before .args .e) (omega arith) (omega arith)) at (c .before .before .loop .inv .1)))
+loop-again c =
+    let c2 = c .before .before in
+    let c3 = c2 .before in (
+      omega arith,
+      left-store (omega (arith, length-slice (c3 .args .i) (c3 .args .e) (c3 .args .src .now) (omega arith)))
+          (rw (slice-one (c3 .args .src .now) (c2 .loop .j) (c3 .args .e) (omega arith) (omega arith)) at (c2 .loop .inv .1)),
+    )
 
 same-length : tie.Need-same-length Inv-loop μ-loop
 same-length c = c .before .loop .inv .1 .long

@@ -36,13 +36,20 @@ loop-less : tie.Need-loop-less Inv-loop μ-loop
 loop-less c = omega arith
 
 loop-again : tie.Need-loop-again Inv-loop μ-loop
-loop-again c = (omega arith, simp length-set (c .before .before .loop .inv .1), move-first (c .before .before .loop .buf) (c .before .before .before .args .from) (c .before .before .before .args .to) (c .before .before .before .args .n) (c .before .before .loop .j) (omega arith) (omega arith) (omega arith) ∙ c .before .before .loop .inv .2)
+loop-again c =
+    let c2 = c .before .before in
+    let c3 = c2 .before in
+    (omega arith, simp length-set (c2 .loop .inv .1), move-first (c2 .loop .buf) (c3 .args .from) (c3 .args .to) (c3 .args .n) (c2 .loop .j) (omega arith) (omega arith) (omega arith) ∙ c2 .loop .inv .2)
 
 same-length : tie.Need-same-length Inv-loop μ-loop
 same-length c = c .before .loop .inv .1
 
 returns : tie.Need-returns Inv-loop μ-loop
-returns c = let e : (c .before .before .args .n) - (c .before .loop .j) ≡ 0 = omega arith in sym (moved-none (c .before .loop .buf) ((c .before .before .args .from) + (c .before .loop .j)) ((c .before .before .args .to) + (c .before .loop .j))) ∙ rw e at (c .before .loop .inv .2)
+returns c =
+    let c1 = c .before in
+    let c2 = c1 .before in
+    let e : (c2 .args .n) - (c1 .loop .j) ≡ 0 = omega arith in
+    sym (moved-none (c1 .loop .buf) ((c2 .args .from) + (c1 .loop .j)) ((c2 .args .to) + (c1 .loop .j))) ∙ rw e at (c1 .loop .inv .2)
 
 pub move-down-spec : {M : Type 1} → statement M
 move-down-spec =

@@ -37,10 +37,20 @@ loop-less : tie.Need-loop-less Inv-loop μ-loop
 loop-less c = omega arith
 
 loop-again : tie.Need-loop-again Inv-loop μ-loop
-loop-again c = (omega arith, omega arith, λ p. let b = or-below (c .before .before .loop .n) (getD (c .before .before .before .before .args .s .now) (c .before .before .before .before .args .i + c .before .before .loop .j) 0) 0x80 p in span-more (λ k. getD (c .before .before .before .before .args .s .now) k 0 < 0x80) (c .before .before .before .before .args .i) (c .before .before .loop .j) (c .before .before .loop .inv .2 (b .0)) (b .1))
+loop-again c =
+    let c2 = c .before .before in
+    let c4 = c2 .before .before in (
+      omega arith,
+      omega arith,
+      λ p. let b = or-below (c2 .loop .n) (getD (c4 .args .s .now) (c4 .args .i + c2 .loop .j) 0) 0x80 p in span-more (λ k. getD (c4 .args .s .now) k 0 < 0x80) (c4 .args .i) (c2 .loop .j)
+          (c2 .loop .inv .2 (b .0)) (b .1),
+    )
 
 returns-2 : tie.Need-returns-2 Inv-loop μ-loop
-returns-2 c = λ p. let e : c .before .before .before .args .k ≡ c .before .loop .j = omega arith in (omega arith, rw e (c .before .loop .inv .2 (ltb-true _ _ p)))
+returns-2 c =
+    let c1 = c .before in
+    let c3 = c1 .before .before in
+    λ p. let e : c3 .args .k ≡ c1 .loop .j = omega arith in (omega arith, rw e (c1 .loop .inv .2 (ltb-true _ _ p)))
 
 pub ascii-spec : {M : Type 1} → statement M
 ascii-spec =

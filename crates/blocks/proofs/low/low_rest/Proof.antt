@@ -29,7 +29,11 @@ ascii-requires : tie.Need-ascii-requires
 ascii-requires c κs = search needs
 
 returns-3 : tie.Need-returns-3
-returns-3 c = let e = c .before .ascii .ensures (c .if3 .taken) in let s = c .before .before .before .before .before .args .s .now in (omega arith, omega arith, span-join (λ k. getD s k 0 < 0x80) (c .before .before .before .before .before .args .from) (c .before .before .before .before .before .args .at) (length s) (c .before .before .before .before .before .pre .2) (λ k a b. e .1 k (omega arith) (omega arith)))
+returns-3 c =
+    let c5 = c .before .before .before .before .before in
+    let e = c .before .ascii .ensures (c .if3 .taken) in
+    let s = c5 .args .s .now in
+    (omega arith, omega arith, span-join (λ k. getD s k 0 < 0x80) (c5 .args .from) (c5 .args .at) (length s) (c5 .pre .2) (λ k a b. e .1 k (omega arith) (omega arith)))
 
 returns-4 : tie.Need-returns-4
 returns-4 c = search needs

@@ -20,7 +20,17 @@ low-blocks-requires-4 : tie.Need-low-blocks-requires-4
 low-blocks-requires-4 c κs = search needs
 
 low-rest-requires : tie.Need-low-rest-requires
-low-rest-requires c κs = let s = c .before .before .before .before .before .args .s .now in let from = c .before .before .before .before .before .args .from in let low : ℕ → Type 0 = λ k. getD s k 0 < 0x80 in let half = span-join low from (c .before .before .before .low-blocks .result) (c .before .before .low-blocks2 .result) (c .before .before .before .low-blocks .ensures .2) (c .before .before .low-blocks2 .ensures .2) in let word = span-join low from (c .before .before .low-blocks2 .result) (c .before .low-blocks3 .result) half (c .before .low-blocks3 .ensures .2) in (omega arith, omega arith, span-join low from (c .before .low-blocks3 .result) (c .low-blocks4 .result) word (c .low-blocks4 .ensures .2))
+low-rest-requires c κs =
+    let c1 = c .before in
+    let c2 = c1 .before in
+    let c3 = c2 .before in
+    let c5 = c3 .before .before in
+    let s = c5 .args .s .now in
+    let from = c5 .args .from in
+    let low : ℕ → Type 0 = λ k. getD s k 0 < 0x80 in
+    let half = span-join low from (c3 .low-blocks .result) (c2 .low-blocks2 .result) (c3 .low-blocks .ensures .2) (c2 .low-blocks2 .ensures .2) in
+    let word = span-join low from (c2 .low-blocks2 .result) (c1 .low-blocks3 .result) half (c1 .low-blocks3 .ensures .2) in
+    (omega arith, omega arith, span-join low from (c1 .low-blocks3 .result) (c .low-blocks4 .result) word (c .low-blocks4 .ensures .2))
 
 returns : tie.Need-returns
 returns c = search needs

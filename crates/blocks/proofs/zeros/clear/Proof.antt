@@ -48,7 +48,10 @@ loop-again c = (
 )
 
 returns-2 : tie.Need-returns-2 Inv-loop μ-loop
-returns-2 c = λ p. let e : c .before .before .before .args .k ≡ c .before .loop .j = omega arith in (omega arith, rw e (c .before .loop .inv .2 p))
+returns-2 c =
+    let c1 = c .before in
+    let c3 = c1 .before .before in
+    λ p. let e : c3 .args .k ≡ c1 .loop .j = omega arith in (omega arith, rw e (c1 .loop .inv .2 p))
 
 pub clear-spec : {M : Type 1} → statement M
 clear-spec =

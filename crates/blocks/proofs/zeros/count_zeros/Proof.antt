@@ -28,10 +28,16 @@ few-zeros-requires : tie.Need-few-zeros-requires Inv-loop μ-loop
 few-zeros-requires c κs = search needs
 
 cast-n : tie.Need-cast-n Inv-loop μ-loop
-cast-n c = omega (arith, zeros-few (c .before .before .before .before .args .s .now) (c .before .before .loop .i) ((c .before .before .loop .i) + 240) (omega arith))
+cast-n c =
+    let c2 = c .before .before in
+    let c4 = c2 .before .before in
+    omega (arith, zeros-few (c4 .args .s .now) (c2 .loop .i) ((c2 .loop .i) + 240) (omega arith))
 
 add-n : tie.Need-add-n Inv-loop μ-loop
-add-n c = omega (arith, zeros-chunk (c .before .before .before .before .args .s .now) (c .before .before .loop .i) ((c .before .before .loop .i) + 240) (omega arith) (omega arith), zeros-le (c .before .before .before .before .args .s .now))
+add-n c =
+    let c2 = c .before .before in
+    let c4 = c2 .before .before in
+    omega (arith, zeros-chunk (c4 .args .s .now) (c2 .loop .i) ((c2 .loop .i) + 240) (omega arith) (omega arith), zeros-le (c4 .args .s .now))
 
 add-i : tie.Need-add-i Inv-loop μ-loop
 add-i c = omega arith
@@ -40,19 +46,28 @@ loop-less : tie.Need-loop-less Inv-loop μ-loop
 loop-less c = omega arith
 
 loop-again : tie.Need-loop-again Inv-loop μ-loop
-loop-again c = (omega arith, omega (arith, zeros-chunk (c .before .before .before .before .args .s .now) (c .before .before .loop .i) ((c .before .before .loop .i) + 240) (omega arith) (omega arith)))
+loop-again c =
+    let c2 = c .before .before in
+    let c4 = c2 .before .before in
+    (omega arith, omega (arith, zeros-chunk (c4 .args .s .now) (c2 .loop .i) ((c2 .loop .i) + 240) (omega arith) (omega arith)))
 
 few-zeros-requires-2 : tie.Need-few-zeros-requires-2 Inv-loop μ-loop
 few-zeros-requires-2 c κs = search needs
 
 cast-result : tie.Need-cast-result Inv-loop μ-loop
-cast-result c = omega (arith, zeros-few (c .before .before .before .before .args .s .now) (c .before .before .loop .i) (length (c .before .before .before .before .args .s .now)) (omega arith))
+cast-result c =
+    let c4 = c .before .before .before .before in
+    omega (arith, zeros-few (c4 .args .s .now) (c .before .before .loop .i) (length (c4 .args .s .now)) (omega arith))
 
 add-result : tie.Need-add-result Inv-loop μ-loop
-add-result c = omega (arith, zeros-rest (c .before .before .before .before .args .s .now) (c .before .before .loop .i), zeros-le (c .before .before .before .before .args .s .now))
+add-result c =
+    let c4 = c .before .before .before .before in
+    omega (arith, zeros-rest (c4 .args .s .now) (c .before .before .loop .i), zeros-le (c4 .args .s .now))
 
 returns : tie.Need-returns Inv-loop μ-loop
-returns c = omega (arith, zeros-rest (c .before .before .before .before .args .s .now) (c .before .before .loop .i))
+returns c =
+    let c4 = c .before .before .before .before in
+    omega (arith, zeros-rest (c4 .args .s .now) (c .before .before .loop .i))
 
 pub count-zeros-spec : {M : Type 1} → statement M
 count-zeros-spec =

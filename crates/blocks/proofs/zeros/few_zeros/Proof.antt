@@ -22,7 +22,9 @@ shared-slice-read-if1 : tie.Need-shared-slice-read-if1 Inv-loop μ-loop
 shared-slice-read-if1 c = omega arith
 
 add-n : tie.Need-add-n Inv-loop μ-loop
-add-n c = omega (arith, zeros-few (c .before .before .before .before .args .s .now) (c .before .before .before .before .args .i) (c .before .before .before .before .args .e) (omega arith))
+add-n c =
+    let c4 = c .before .before .before .before in
+    omega (arith, zeros-few (c4 .args .s .now) (c4 .args .i) (c4 .args .e) (omega arith))
 
 add-j : tie.Need-add-j Inv-loop μ-loop
 add-j c = omega arith
@@ -40,7 +42,9 @@ loop-again c = (
 )
 
 returns : tie.Need-returns Inv-loop μ-loop
-returns c = omega (arith, here-none (c .before .before .args .s .now) (c .before .loop .j) (c .before .before .args .e) (omega arith) (c .loop-test .left))
+returns c =
+    let c2 = c .before .before in
+    omega (arith, here-none (c2 .args .s .now) (c .before .loop .j) (c2 .args .e) (omega arith) (c .loop-test .left))
 
 pub few-zeros-spec : {M : Type 1} → statement M
 few-zeros-spec =

@@ -22,13 +22,18 @@ past-clear-requires-2 : tie.Need-past-clear-requires-2 Inv-loop μ-loop
 past-clear-requires-2 c κs = search needs
 
 loop-holds : tie.Need-loop-holds Inv-loop μ-loop
-loop-holds c = (omega arith, omega arith, span-join (λ k. getD (c .before .before .before .args .s .now) k 0 ≡ 0 → ⊥) (c .before .before .before .args .from) (c .before .past-clear .result) (c .past-clear2 .result) (c .before .past-clear .ensures .2) (c .past-clear2 .ensures .2))
+loop-holds c =
+    let c1 = c .before in
+    let c3 = c1 .before .before in
+    (omega arith, omega arith, span-join (λ k. getD (c3 .args .s .now) k 0 ≡ 0 → ⊥) (c3 .args .from) (c1 .past-clear .result) (c .past-clear2 .result) (c1 .past-clear .ensures .2) (c .past-clear2 .ensures .2))
 
 shared-slice-read-if1 : tie.Need-shared-slice-read-if1 Inv-loop μ-loop
 shared-slice-read-if1 c = omega arith
 
 returns : tie.Need-returns Inv-loop μ-loop
-returns c = record { after = c .before .before .before .loop .inv .0; inside = c .before .before .before .loop .inv .1; none = c .before .before .before .loop .inv .2; zero = λ h. c .if1 .taken }
+returns c =
+    let c3 = c .before .before .before in
+    record { after = c3 .loop .inv .0; inside = c3 .loop .inv .1; none = c3 .loop .inv .2; zero = λ h. c .if1 .taken }
 
 add-i : tie.Need-add-i Inv-loop μ-loop
 add-i c = omega arith
@@ -37,10 +42,15 @@ loop-less : tie.Need-loop-less Inv-loop μ-loop
 loop-less c = omega arith
 
 loop-again : tie.Need-loop-again Inv-loop μ-loop
-loop-again c = (omega arith, omega arith, span-one (λ k. getD (c .before .before .before .before .before .before .before .args .s .now) k 0 ≡ 0 → ⊥) (c .before .before .before .before .before .before .before .args .from) (c .before .before .before .loop .i) (c .before .before .before .loop .inv .2) (c .if1 .left))
+loop-again c =
+    let c3 = c .before .before .before in
+    let c7 = c3 .before .before .before .before in
+    (omega arith, omega arith, span-one (λ k. getD (c7 .args .s .now) k 0 ≡ 0 → ⊥) (c7 .args .from) (c3 .loop .i) (c3 .loop .inv .2) (c .if1 .left))
 
 returns-2 : tie.Need-returns-2 Inv-loop μ-loop
-returns-2 c = record { after = c .before .loop .inv .0; inside = c .before .loop .inv .1; none = c .before .loop .inv .2; zero = λ h. absurd (omega arith) }
+returns-2 c =
+    let c1 = c .before in
+    record { after = c1 .loop .inv .0; inside = c1 .loop .inv .1; none = c1 .loop .inv .2; zero = λ h. absurd (omega arith) }
 
 pub find-zero-spec : {M : Type 1} → statement M
 find-zero-spec =

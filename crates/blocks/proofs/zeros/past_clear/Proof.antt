@@ -28,7 +28,11 @@ loop-less : tie.Need-loop-less Inv-loop μ-loop
 loop-less c = let e = c .before .clear .ensures (c .if1 .taken) in omega arith
 
 loop-again : tie.Need-loop-again Inv-loop μ-loop
-loop-again c = let e = c .before .clear .ensures (c .if1 .taken) in (omega arith, omega arith, span-join (λ k. getD (c .before .before .before .before .args .s .now) k 0 ≡ 0 → ⊥) (c .before .before .before .before .args .from) (c .before .before .loop .i) (c .before .before .loop .i + c .before .before .before .before .args .k) (c .before .before .loop .inv .2) (e .1))
+loop-again c =
+    let c2 = c .before .before in
+    let c4 = c2 .before .before in
+    let e = c .before .clear .ensures (c .if1 .taken) in
+    (omega arith, omega arith, span-join (λ k. getD (c4 .args .s .now) k 0 ≡ 0 → ⊥) (c4 .args .from) (c2 .loop .i) (c2 .loop .i + c4 .args .k) (c2 .loop .inv .2) (e .1))
 
 returns : tie.Need-returns Inv-loop μ-loop
 returns c = c .before .before .loop .inv

@@ -32,13 +32,39 @@ add-if3 : tie.Need-add-if3
 add-if3 c = search needs
 
 returns-3 : tie.Need-returns-3
-returns-3 c = let n = c .before .before .before .zero-of-four .ensures in let g = c .before .zero-of-four2 .ensures in record { after = omega (arith, n .after, g .after); inside = omega (arith, n .inside, g .inside, c .before .before .before .before .if1 .left); none = span-join (λ k. getD (c .before .before .before .before .before .before .args .s .now) k 0 ≡ 0 → ⊥) (c .before .before .before .before .before .before .args .from) (c .before .before .before .zero-of-four .result) (c .before .zero-of-four2 .result) (c .before .before .before .zero-of-four .ensures .none) (c .before .zero-of-four2 .ensures .none); zero = λ h. g .zero (c .if3 .taken) }
+returns-3 c =
+    let c1 = c .before in
+    let c3 = c1 .before .before in
+    let c4 = c3 .before in
+    let c6 = c4 .before .before in
+    let n = c3 .zero-of-four .ensures in
+    let g = c1 .zero-of-four2 .ensures in
+    record {
+      after = omega (arith, n .after, g .after);
+      inside = omega (arith, n .inside, g .inside, c4 .if1 .left);
+      none = span-join (λ k. getD (c6 .args .s .now) k 0 ≡ 0 → ⊥) (c6 .args .from) (c3 .zero-of-four .result)
+          (c1 .zero-of-four2 .result) (c3 .zero-of-four .ensures .none) (c1 .zero-of-four2 .ensures .none);
+      zero = λ h. g .zero (c .if3 .taken);
+    }
 
 find-zero-requires-2 : tie.Need-find-zero-requires-2
 find-zero-requires-2 c κs = search needs
 
 returns-4 : tie.Need-returns-4
-returns-4 c = let n = c .before .before .before .before .zero-of-four .ensures in let g = c .before .before .zero-of-four2 .ensures in let z = c .find-zero2 .ensures in record { after = omega (arith, n .after, g .after, z .after); inside = z .inside; none = span-join (λ k. getD (c .before .before .before .before .before .before .before .args .s .now) k 0 ≡ 0 → ⊥) (c .before .before .before .before .before .before .before .args .from) (c .before .before .zero-of-four2 .result) (c .find-zero2 .result) (span-join (λ k. getD (c .before .before .before .before .before .before .before .args .s .now) k 0 ≡ 0 → ⊥) (c .before .before .before .before .before .before .before .args .from) (c .before .before .before .before .zero-of-four .result) (c .before .before .zero-of-four2 .result) (c .before .before .before .before .zero-of-four .ensures .none) (c .before .before .zero-of-four2 .ensures .none)) (z .none); zero = z .zero }
+returns-4 c =
+    let c2 = c .before .before in
+    let c4 = c2 .before .before in
+    let c7 = c4 .before .before .before in
+    let n = c4 .zero-of-four .ensures in
+    let g = c2 .zero-of-four2 .ensures in
+    let z = c .find-zero2 .ensures in
+    record {
+      after = omega (arith, n .after, g .after, z .after);
+      inside = z .inside;
+      none = span-join (λ k. getD (c7 .args .s .now) k 0 ≡ 0 → ⊥) (c7 .args .from) (c2 .zero-of-four2 .result) (c .find-zero2 .result)
+          (span-join (λ k. getD (c7 .args .s .now) k 0 ≡ 0 → ⊥) (c7 .args .from) (c4 .zero-of-four .result) (c2 .zero-of-four2 .result) (c4 .zero-of-four .ensures .none) (c2 .zero-of-four2 .ensures .none)) (z .none);
+      zero = z .zero;
+    }
 
 pub zero-from-spec : {M : Type 1} → statement M
 zero-from-spec =

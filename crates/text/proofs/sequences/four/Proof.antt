@@ -15,10 +15,15 @@ between-requires-2 : tie.Need-between-requires-2
 between-requires-2 c κs = search needs
 
 returns : tie.Need-returns
-returns c = and-go (and-go (c .before .before .before .before .leads4 .ensures) (c .before .before .before .if1 .taken) (c .before .before .between .ensures)) (c .before .if2 .taken) (c .between2 .ensures)
+returns c =
+    let c3 = c .before .before .before in
+    let c4 = c3 .before in
+    and-go (and-go (c4 .leads4 .ensures) (c3 .if1 .taken) (c .before .before .between .ensures)) (c .before .if2 .taken) (c .between2 .ensures)
 
 returns-2 : tie.Need-returns-2
-returns-2 c = and-stop _ _ (and-go (c .before .before .before .leads4 .ensures) (c .before .before .if1 .taken) (c .before .between .ensures)) (c .if2 .left)
+returns-2 c =
+    let c3 = c .before .before .before in
+    and-stop _ _ (and-go (c3 .leads4 .ensures) (c .before .before .if1 .taken) (c .before .between .ensures)) (c .if2 .left)
 
 returns-3 : tie.Need-returns-3
 returns-3 c = and-stop _ _ (and-stop _ _ (c .before .leads4 .ensures) (c .if1 .left)) refl

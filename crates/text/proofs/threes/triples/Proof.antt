@@ -45,10 +45,22 @@ loop-less : tie.Need-loop-less Inv-loop μ-loop
 loop-less c = omega arith
 
 loop-again : tie.Need-loop-again Inv-loop μ-loop
-loop-again c = (omega arith, c .before .before .before .loop .inv .1, c .before .before .before .loop .inv .2, λ p. let b = or-below (c .before .before .before .loop .n) (c .outside .result) 1 (omega (arith, p)) in let n : c .before .before .before .loop .n ≡ 0 = omega (arith, b .0) in let r : c .outside .result ≡ 0 = omega (arith, b .1) in λ q h. span-one (λ k. Lies k (getD (c .before .before .before .before .before .before .args .s .now) (c .before .before .before .before .before .before .args .i + k) 0)) 0 (c .before .before .before .loop .j) (λ k a l. c .before .before .before .loop .inv .3 n k l) (c .outside .ensures r) q (omega arith) h)
+loop-again c =
+    let c3 = c .before .before .before in
+    let c6 = c3 .before .before .before in (
+      omega arith,
+      c3 .loop .inv .1,
+      c3 .loop .inv .2,
+      λ p. let b = or-below (c3 .loop .n) (c .outside .result) 1 (omega (arith, p)) in let n : c3 .loop .n ≡ 0 = omega (arith, b .0)
+          in let r : c .outside .result ≡ 0 = omega (arith, b .1) in λ q h. span-one (λ k. Lies k (getD (c6 .args .s .now) (c6 .args .i + k) 0)) 0 (c3 .loop .j) (λ k a l. c3 .loop .inv .3 n k l) (c .outside .ensures r) q
+          (omega arith) h,
+    )
 
 returns-2 : tie.Need-returns-2 Inv-loop μ-loop
-returns-2 c = λ p. let n = eqb-true (c .before .loop .n) 0 p in (c .before .loop .inv .2, row (c .before .before .before .before .args .s .now) (c .before .before .before .before .args .m) (c .before .before .before .before .args .i) (c .before .loop .inv .2) (λ q h. c .before .loop .inv .3 n q (omega arith)))
+returns-2 c =
+    let c1 = c .before in
+    let c4 = c1 .before .before .before in
+    λ p. let n = eqb-true (c1 .loop .n) 0 p in (c1 .loop .inv .2, row (c4 .args .s .now) (c4 .args .m) (c4 .args .i) (c1 .loop .inv .2) (λ q h. c1 .loop .inv .3 n q (omega arith)))
 
 pub triples-spec : {M : Type 1} → statement M
 triples-spec =

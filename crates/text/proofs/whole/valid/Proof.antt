@@ -34,16 +34,41 @@ walk-requires : tie.Need-walk-requires Inv-loop μ-loop
 walk-requires c κs = search needs
 
 returns : tie.Need-returns Inv-loop μ-loop
-returns c = sym (c .before .before .before .before .before .before .loop .inv .1 ∙ text-chunk (c .before .before .before .before .before .before .before .before .before .args .s .now) (c .before .before .before .before .before .before .loop .at) (c .before .before .before .before .low-blocks .result) ((c .before .before .before .before .low-blocks .ensures) .0) ((c .before .before .before .before .low-blocks .ensures) .1) ((c .before .before .before .before .low-blocks .ensures) .2) ∙ (c .before .before .before .past-threes .ensures) .2 ∙ (c .before .walk .ensures) .same ∙ step-stops (c .before .before .before .before .before .before .before .before .before .args .s .now) (c .before .walk .result) (omega arith) ((c .before .walk .ensures) .stuck (c .if1 .taken)))
+returns c =
+    let c1 = c .before in
+    let c3 = c1 .before .before in
+    let c4 = c3 .before in
+    let c6 = c4 .before .before in
+    let c9 = c6 .before .before .before in
+    sym (c6 .loop .inv .1 ∙ text-chunk (c9 .args .s .now) (c6 .loop .at) (c4 .low-blocks .result) ((c4 .low-blocks .ensures) .0) ((c4 .low-blocks .ensures) .1) ((c4 .low-blocks .ensures) .2) ∙ (c3 .past-threes .ensures)
+    .2 ∙ (c1 .walk .ensures) .same ∙ step-stops (c9 .args .s .now) (c1 .walk .result) (omega arith) ((c1 .walk .ensures) .stuck (c .if1 .taken)))
 
 loop-less : tie.Need-loop-less Inv-loop μ-loop
-loop-less c = let m = moves-on (c .before .before .before .before .before .before .loop .at) (c .before .before .before .past-threes .result) (c .before .before .block-end .result) (length (c .before .before .before .before .before .before .before .before .before .args .s .now)) (omega arith) (omega arith) (c .before .before .block-end .ensures .1) (c .before .before .block-end .ensures .2) in omega arith
+loop-less c =
+    let c2 = c .before .before in
+    let c3 = c2 .before in
+    let c6 = c3 .before .before .before in
+    let c9 = c6 .before .before .before in
+    let m = moves-on (c6 .loop .at) (c3 .past-threes .result) (c2 .block-end .result) (length (c9 .args .s .now)) (omega arith) (omega arith) (c2 .block-end .ensures .1) (c2 .block-end .ensures .2) in
+    omega arith
 
 loop-again : tie.Need-loop-again Inv-loop μ-loop
-loop-again c = ((c .before .walk .ensures) .inside, c .before .before .before .before .before .before .loop .inv .1 ∙ text-chunk (c .before .before .before .before .before .before .before .before .before .args .s .now) (c .before .before .before .before .before .before .loop .at) (c .before .before .before .before .low-blocks .result) ((c .before .before .before .before .low-blocks .ensures) .0) ((c .before .before .before .before .low-blocks .ensures) .1) ((c .before .before .before .before .low-blocks .ensures) .2) ∙ (c .before .before .before .past-threes .ensures) .2 ∙ (c .before .walk .ensures) .same)
+loop-again c =
+    let c1 = c .before in
+    let c3 = c1 .before .before in
+    let c4 = c3 .before in
+    let c6 = c4 .before .before in
+    let c9 = c6 .before .before .before in (
+      (c1 .walk .ensures) .inside,
+      c6 .loop .inv .1 ∙ text-chunk (c9 .args .s .now) (c6 .loop .at) (c4 .low-blocks .result) ((c4 .low-blocks .ensures) .0) ((c4 .low-blocks .ensures) .1) ((c4 .low-blocks .ensures) .2) ∙
+          (c3 .past-threes .ensures) .2 ∙ (c1 .walk .ensures) .same,
+    )
 
 returns-2 : tie.Need-returns-2 Inv-loop μ-loop
-returns-2 c = sym (c .before .loop .inv .1 ∙ ends-well (c .before .before .before .before .args .s .now) (c .before .loop .at) (c .loop-test .left))
+returns-2 c =
+    let c1 = c .before in
+    let c4 = c1 .before .before .before in
+    sym (c1 .loop .inv .1 ∙ ends-well (c4 .args .s .now) (c1 .loop .at) (c .loop-test .left))
 
 pub valid-spec : {M : Type 1} → statement M
 valid-spec =

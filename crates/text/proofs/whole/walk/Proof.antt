@@ -22,19 +22,39 @@ char-width-requires : tie.Need-char-width-requires Inv-loop μ-loop
 char-width-requires c κs = search needs
 
 returns : tie.Need-returns Inv-loop μ-loop
-returns c = record { after = c .before .before .before .loop .inv .0; inside = c .before .before .before .loop .inv .1; same = c .before .before .before .loop .inv .2; stuck = λ h. sym (c .before .char-width .ensures) ∙ c .if1 .taken }
+returns c =
+    let c3 = c .before .before .before in
+    record { after = c3 .loop .inv .0; inside = c3 .loop .inv .1; same = c3 .loop .inv .2; stuck = λ h. sym (c .before .char-width .ensures) ∙ c .if1 .taken }
 
 add-at : tie.Need-add-at Inv-loop μ-loop
-add-at c = omega (arith, step-fits (c .before .before .before .before .before .args .s .now) (c .before .before .before .loop .at) (c .before .char-width .result) (c .before .char-width .ensures) (omega arith))
+add-at c =
+    let c1 = c .before in
+    let c3 = c1 .before .before in
+    let c5 = c3 .before .before in
+    omega (arith, step-fits (c5 .args .s .now) (c3 .loop .at) (c1 .char-width .result) (c1 .char-width .ensures) (omega arith))
 
 loop-less : tie.Need-loop-less Inv-loop μ-loop
-loop-less c = omega (arith, step-fits (c .before .before .before .before .before .args .s .now) (c .before .before .before .loop .at) (c .before .char-width .result) (c .before .char-width .ensures) (omega arith))
+loop-less c =
+    let c1 = c .before in
+    let c3 = c1 .before .before in
+    let c5 = c3 .before .before in
+    omega (arith, step-fits (c5 .args .s .now) (c3 .loop .at) (c1 .char-width .result) (c1 .char-width .ensures) (omega arith))
 
 loop-again : tie.Need-loop-again Inv-loop μ-loop
-loop-again c = (omega arith, step-fits (c .before .before .before .before .before .args .s .now) (c .before .before .before .loop .at) (c .before .char-width .result) (c .before .char-width .ensures) (omega arith), c .before .before .before .loop .inv .2 ∙ step-on (c .before .before .before .before .before .args .s .now) (c .before .before .before .loop .at) (c .before .char-width .result) (c .before .char-width .ensures) (c .if1 .left))
+loop-again c =
+    let c1 = c .before in
+    let c3 = c1 .before .before in
+    let c5 = c3 .before .before in (
+      omega arith,
+      step-fits (c5 .args .s .now) (c3 .loop .at) (c1 .char-width .result) (c1 .char-width .ensures) (omega arith),
+      c3 .loop .inv .2 ∙ step-on (c5 .args .s .now) (c3 .loop .at) (c1 .char-width .result)
+          (c1 .char-width .ensures) (c .if1 .left),
+    )
 
 returns-2 : tie.Need-returns-2 Inv-loop μ-loop
-returns-2 c = record { after = c .before .loop .inv .0; inside = c .before .loop .inv .1; same = c .before .loop .inv .2; stuck = λ h. absurd (omega arith) }
+returns-2 c =
+    let c1 = c .before in
+    record { after = c1 .loop .inv .0; inside = c1 .loop .inv .1; same = c1 .loop .inv .2; stuck = λ h. absurd (omega arith) }
 
 pub walk-spec : {M : Type 1} → statement M
 walk-spec =

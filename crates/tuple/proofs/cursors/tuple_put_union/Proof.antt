@@ -17,7 +17,10 @@ same-length : tie.Need-same-length
 same-length c = search needs
 
 returns : tie.Need-returns
-returns c = laws.tagged cursor.putUnion _ _ _ _ _ _ _ _ _ (c .of-wrote .ensures) (c .before .before .before .put-union .ensures) (c .before .before .before .before .before .cursor-at .ensures)
+returns c =
+    let c3 = c .before .before .before in
+    let c5 = c3 .before .before in
+    laws.tagged cursor.putUnion _ _ _ _ _ _ _ _ _ (c .of-wrote .ensures) (c3 .put-union .ensures) (c5 .cursor-at .ensures)
 
 pub tuple-put-union-spec : {M : Type 1} → statement M
 tuple-put-union-spec =

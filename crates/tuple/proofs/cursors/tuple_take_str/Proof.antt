@@ -17,7 +17,10 @@ same-length : tie.Need-same-length
 same-length c = search needs
 
 returns : tie.Need-returns
-returns c = laws.taken cursor.takeStr _ _ _ _ _ _ _ _ _ (c .of-part .ensures) (c .before .before .before .take-str .ensures) (c .before .before .before .before .before .cursor-at .ensures)
+returns c =
+    let c3 = c .before .before .before in
+    let c5 = c3 .before .before in
+    laws.taken cursor.takeStr _ _ _ _ _ _ _ _ _ (c .of-part .ensures) (c3 .take-str .ensures) (c5 .cursor-at .ensures)
 
 pub tuple-take-str-spec : {M : Type 1} → statement M
 tuple-take-str-spec =

@@ -13,7 +13,9 @@ same-length : tie.Need-same-length
 same-length c = search needs
 
 returns : tie.Need-returns
-returns c = laws.handed _ _ _ _ (c .of-part .ensures) (c .before .before .before .get-bytes .ensures)
+returns c =
+    let c3 = c .before .before .before in
+    laws.handed _ _ _ _ (c .of-part .ensures) (c3 .get-bytes .ensures)
 
 pub tuple-get-bytes-spec : {M : Type 1} → statement M
 tuple-get-bytes-spec = tie.close (tie.spec get-bytes-requires of-part-requires same-length returns)

@@ -13,7 +13,9 @@ same-length : tie.Need-same-length
 same-length c = search needs
 
 returns : tie.Need-returns
-returns c = laws.handed _ _ _ _ (c .of-part .ensures) (c .before .before .before .get-str .ensures)
+returns c =
+    let c3 = c .before .before .before in
+    laws.handed _ _ _ _ (c .of-part .ensures) (c3 .get-str .ensures)
 
 pub tuple-get-str-spec : {M : Type 1} → statement M
 tuple-get-str-spec = tie.close (tie.spec get-str-requires of-part-requires same-length returns)

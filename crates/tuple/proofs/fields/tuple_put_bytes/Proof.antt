@@ -13,7 +13,9 @@ same-length : tie.Need-same-length
 same-length c = search needs
 
 returns : tie.Need-returns
-returns c = laws.wrote _ _ _ _ (c .of-put .ensures) (c .before .before .before .put-bytes .ensures)
+returns c =
+    let c3 = c .before .before .before in
+    laws.wrote _ _ _ _ (c .of-put .ensures) (c3 .put-bytes .ensures)
 
 pub tuple-put-bytes-spec : {M : Type 1} → statement M
 tuple-put-bytes-spec = tie.close (tie.spec put-bytes-requires of-put-requires same-length returns)

@@ -13,7 +13,9 @@ same-length : tie.Need-same-length
 same-length c = search needs
 
 returns : tie.Need-returns
-returns c = laws.wrote _ _ _ _ (c .of-put .ensures) (c .before .before .before .put-u64 .ensures)
+returns c =
+    let c3 = c .before .before .before in
+    laws.wrote _ _ _ _ (c .of-put .ensures) (c3 .put-u64 .ensures)
 
 pub tuple-put-u64-spec : {M : Type 1} → statement M
 tuple-put-u64-spec = tie.close (tie.spec put-u64-requires of-put-requires same-length returns)

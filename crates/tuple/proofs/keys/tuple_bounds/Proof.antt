@@ -16,7 +16,9 @@ same-length-2 : tie.Need-same-length-2
 same-length-2 c = search needs
 
 returns : tie.Need-returns
-returns c = laws.bounded _ _ _ _ _ (c .of-bounded .ensures) (c .before .before .before .before .before .bounds .ensures)
+returns c =
+    let c5 = c .before .before .before .before .before in
+    laws.bounded _ _ _ _ _ (c .of-bounded .ensures) (c5 .bounds .ensures)
 
 pub tuple-bounds-spec : {M : Type 1} → statement M
 tuple-bounds-spec =

@@ -13,7 +13,9 @@ same-length : tie.Need-same-length
 same-length c = search needs
 
 returns : tie.Need-returns
-returns c = laws.replaced _ _ _ _ (c .of-replaced .ensures) (c .before .before .before .replace .ensures)
+returns c =
+    let c3 = c .before .before .before in
+    laws.replaced _ _ _ _ (c .of-replaced .ensures) (c3 .replace .ensures)
 
 pub tuple-replace-spec : {M : Type 1} → statement M
 tuple-replace-spec = tie.close (tie.spec replace-requires of-replaced-requires same-length returns)

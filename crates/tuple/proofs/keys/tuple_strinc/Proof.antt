@@ -13,7 +13,9 @@ same-length : tie.Need-same-length
 same-length c = search needs
 
 returns : tie.Need-returns
-returns c = laws.left _ _ _ _ (c .of-written .ensures) (c .before .before .before .strinc .ensures)
+returns c =
+    let c3 = c .before .before .before in
+    laws.left _ _ _ _ (c .of-written .ensures) (c3 .strinc .ensures)
 
 pub tuple-strinc-spec : {M : Type 1} → statement M
 tuple-strinc-spec = tie.close (tie.spec strinc-requires of-written-requires same-length returns)

@@ -10,7 +10,9 @@ of-step-requires : tie.Need-of-step-requires
 of-step-requires c κs = search needs
 
 returns : tie.Need-returns
-returns c = laws.stepped _ (c .before .step-at .result) _ (c .of-step .ensures) (c .before .step-at .ensures)
+returns c =
+    let c1 = c .before in
+    laws.stepped _ (c1 .step-at .result) _ (c .of-step .ensures) (c1 .step-at .ensures)
 
 pub tuple-chars-next-spec : {M : Type 1} → statement M
 tuple-chars-next-spec = tie.close (tie.spec step-at-requires of-step-requires returns)

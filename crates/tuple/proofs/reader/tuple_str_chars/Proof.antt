@@ -10,7 +10,9 @@ of-opening-requires : tie.Need-of-opening-requires
 of-opening-requires c κs = search needs
 
 returns : tie.Need-returns
-returns c = laws.opened (c .before .open-at .result .refusal) (c .before .open-at .result .detail) _ _ _ (c .of-opening .ensures) (c .before .open-at .ensures .0)
+returns c =
+    let c1 = c .before in
+    laws.opened (c1 .open-at .result .refusal) (c1 .open-at .result .detail) _ _ _ (c .of-opening .ensures) (c1 .open-at .ensures .0)
 
 pub tuple-str-chars-spec : {M : Type 1} → statement M
 tuple-str-chars-spec = tie.close (tie.spec open-at-requires of-opening-requires returns)

@@ -11,7 +11,9 @@ of-checked-requires : tie.Need-of-checked-requires
 of-checked-requires c κs = search needs
 
 returns : tie.Need-returns
-returns c = c .of-checked .ensures ∙ laws.checked _ (c .before .check-key .result) (c .before .check-key .ensures)
+returns c =
+    let c1 = c .before in
+    c .of-checked .ensures ∙ laws.checked _ (c1 .check-key .result) (c1 .check-key .ensures)
 
 pub tuple-check-key-spec : {M : Type 1} → statement M
 tuple-check-key-spec = tie.close (tie.spec check-key-requires of-checked-requires returns)

@@ -16,7 +16,9 @@ same-length-2 : tie.Need-same-length-2
 same-length-2 c = search needs
 
 returns : tie.Need-returns
-returns c = laws.filled _ (c .before .before .before .before .before .decode-typed .result) _ _ _ (c .of-decoded .ensures) (c .before .before .before .before .before .decode-typed .ensures)
+returns c =
+    let c5 = c .before .before .before .before .before in
+    laws.filled _ (c5 .decode-typed .result) _ _ _ (c .of-decoded .ensures) (c5 .decode-typed .ensures)
 
 pub tuple-decode-typed-spec : {M : Type 1} → statement M
 tuple-decode-typed-spec =

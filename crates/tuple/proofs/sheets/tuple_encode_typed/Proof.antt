@@ -13,7 +13,9 @@ same-length : tie.Need-same-length
 same-length c = search needs
 
 returns : tie.Need-returns
-returns c = laws.wrote _ _ _ _ (c .of-encoded .ensures) (c .before .before .before .encode-typed .ensures)
+returns c =
+    let c3 = c .before .before .before in
+    laws.wrote _ _ _ _ (c .of-encoded .ensures) (c3 .encode-typed .ensures)
 
 pub tuple-encode-typed-spec : {M : Type 1} → statement M
 tuple-encode-typed-spec =

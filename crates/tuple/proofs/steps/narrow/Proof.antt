@@ -8,10 +8,14 @@ cast-result : tie.Need-cast-result
 cast-result c = search needs
 
 returns : tie.Need-returns
-returns c = deep-less (cursorOf (c .before .args .at) (c .before .args .depth)) (c .if1 .taken)
+returns c =
+    let c1 = c .before in
+    deep-less (cursorOf (c1 .args .at) (c1 .args .depth)) (c .if1 .taken)
 
 returns-2 : tie.Need-returns-2
-returns-2 c = deep-more (cursorOf (c .before .args .at) (c .before .args .depth)) (c .if1 .left)
+returns-2 c =
+    let c1 = c .before in
+    deep-more (cursorOf (c1 .args .at) (c1 .args .depth)) (c .if1 .left)
 
 pub narrow-spec : {M : Type 1} → statement M
 narrow-spec = tie.close (tie.spec cast-result returns returns-2)
