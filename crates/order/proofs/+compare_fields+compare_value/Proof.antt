@@ -1,3 +1,4 @@
+-- Both go down with the words left of the first value. The fields' invariant: what was passed is equal, so what is left decides.
 use mathlib.Core.Path.{refl, _∙_}
 use Prim.Native.Nat.{ℕ, _+_, _-_, _*_, _<_}
 use native.Mathlib.Omega.{arith}

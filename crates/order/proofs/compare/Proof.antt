@@ -1,3 +1,4 @@
+-- The walk from both beginnings decides the values that the sheets hold; a sheet that is not admitted is refused before.
 use mathlib.Core.Path.{sym, _∙_}
 use Prim.Native.Nat.{Ordering·lt, Ordering·eq}
 use native.Mathlib.Omega.{arith}

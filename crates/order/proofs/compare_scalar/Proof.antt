@@ -1,3 +1,4 @@
+-- By rank: integers with the top bit flipped, references as they are, runs byte by byte; both walks stand behind their values.
 use mathlib.Core.Path.{ap₂, _∙_}
 use Prim.Native.Nat.{ℕ, compare}
 use native.Mathlib.Omega.{arith}

@@ -1,3 +1,4 @@
+-- The two comparisons are those of `compare`, as a code.
 use Rattle.order.proofs.Steps.{code-less, code-more, code-same}
 use Rattle.order.proofs.number_order.Statement.{statement}
 use Rattle.order.proofs.number_order.Tie as tie

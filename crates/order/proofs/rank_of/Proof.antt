@@ -1,3 +1,4 @@
+-- The kinds one by one.
 use borrow.Author.Needs.{needs}
 use Rattle.order.specs.Compare.{rankOf}
 use Rattle.order.proofs.Steps.{rank-other}

@@ -1,3 +1,4 @@
+-- The order of bytes, as a code.
 use mathlib.Core.Path.{sym, ap, _∙_}
 use borrow.Author.Needs.{needs}
 use Rattle.blocks.specs.Compare.{orderOf}

@@ -1,4 +1,4 @@
--- `fill_type` keeps its slice's length.
+-- Invariant: the end is the slice's length, which stores keep. The places left fall.
 use borrow.Author.Needs.{needs}
 use mathlib.Core.Path.{_≡_}
 use Prim.Native.Nat.{_-_}

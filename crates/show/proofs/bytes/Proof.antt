@@ -1,4 +1,4 @@
--- `bytes` meets its contract.
+-- Invariant: the end is the slice's length, so each place read lies within it. The places left fall.
 use borrow.Author.Needs.{needs}
 use mathlib.Core.Path.{_≡_}
 use Prim.Native.Nat.{_-_}

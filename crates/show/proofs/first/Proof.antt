@@ -1,4 +1,4 @@
--- `first` gives a part within its slice.
+-- The part is cut to the slice's length.
 use mathlib.Core.Path.{sym}
 use native.Mathlib.Omega.{arith}
 use lib.Seq.{length-take-le}

@@ -1,4 +1,4 @@
--- `compare` meets its contract.
+-- Where the two first differ, or the shorter ends, decides: `differ_at` says that all before it is alike.
 use Rattle.blocks.proofs.Orders.{both-end, a-ends, b-ends, byte-less, byte-more}
 use borrow.Author.Needs.{needs}
 use Rattle.blocks.proofs.comparing.compare.Statement.{statement}

@@ -1,4 +1,4 @@
--- `differ_at` meets its contract.
+-- Invariant: both are alike up to the place. What is left of the first falls.
 use borrow.Author.Needs.{needs}
 use mathlib.Core.Path.{_≡_}
 use Prim.Native.Nat.{_-_, _≤_}

@@ -1,4 +1,4 @@
--- `past_same` meets its contract.
+-- Invariant: both are alike from the start up to the place; a block that is alike moves it by k. What is left of the first falls.
 use borrow.Author.Needs.{needs}
 use mathlib.Core.Path.{_≡_}
 use Prim.Native.Nat.{_+_, _-_, _≤_}

@@ -1,4 +1,4 @@
--- `same` meets its contract.
+-- Invariant: while the flag holds, the j bytes passed are alike. The bytes of the block that are left fall.
 use mathlib.Core.Path.{_≡_, sym, _∙_}
 use mathlib.Core.Bool.{Bool, true, false}
 use mathlib.Core.Logic.{⊎-elim}

@@ -1,4 +1,4 @@
--- `copy_clear` meets its contract.
+-- Invariant: no zero up to the place, and what stands there is copied. What is left of the source falls.
 use borrow.Author.Needs.{needs}
 use mathlib.Core.Path.{_≡_, refl, sym}
 use Prim.Native.Nat.{_+_, _-_, _≤_}

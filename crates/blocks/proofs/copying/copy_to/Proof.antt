@@ -1,4 +1,4 @@
--- `copy_to` meets its contract.
+-- Invariant: what is left to copy, put from here on, gives the whole copy. The bytes left fall.
 use mathlib.Core.Path.{_≡_}
 use Prim.Native.Nat.{_-_, _≤_}
 use native.Mathlib.Omega.{arith}

@@ -1,4 +1,4 @@
--- `move_down` meets its contract.
+-- Invariant: moving what is left gives the whole move, since a byte is read before its place is written. The bytes left fall.
 use native.Mathlib.Nat.{add-zero, sub-zero}
 use mathlib.Core.Path.{_≡_, refl, sym, _∙_}
 use Prim.Native.Nat.{_+_, _-_, _≤_}

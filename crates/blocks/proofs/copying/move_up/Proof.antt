@@ -1,4 +1,4 @@
--- `move_up` meets its contract.
+-- Invariant: moving the bytes before the place gives the whole move; they go from the last to the first. The place falls.
 use mathlib.Core.Path.{_≡_, refl, sym, _∙_}
 use Prim.Native.Nat.{_≤_}
 use native.Mathlib.Omega.{arith}

@@ -1,4 +1,4 @@
--- `ascii` meets its contract.
+-- Invariant: where all bytes met, or-ed together, are below 80, the j bytes passed are ASCII. The bytes of the block that are left fall.
 use mathlib.Core.Path.{_≡_}
 use Prim.Native.Nat.{ℕ, _+_, _-_, _≤_, _<_}
 use native.Mathlib.Omega.{arith}

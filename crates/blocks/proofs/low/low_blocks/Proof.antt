@@ -1,4 +1,4 @@
--- `low_blocks` meets its contract.
+-- Invariant: all is ASCII up to the place; a block that is moves it by k. What is left falls.
 use borrow.Author.Needs.{needs}
 use Prim.Native.Nat.{_+_, _-_, _≤_, _<_}
 use native.Mathlib.Omega.{arith}

@@ -1,4 +1,4 @@
--- `low_rest` meets its contract.
+-- At most four bytes are left: they are tested as one block that may begin before the place, whose bytes are known to be ASCII.
 use Prim.Native.Nat.{ℕ, _<_}
 use native.Mathlib.Omega.{arith}
 use lib.ListN.{length, getD}

@@ -1,4 +1,4 @@
--- `past_ascii` meets its contract.
+-- Wide blocks, then the rest: each part says that all up to its end is ASCII.
 use Prim.Native.Nat.{ℕ, _<_}
 use native.Mathlib.Omega.{arith}
 use lib.ListN.{length, getD}

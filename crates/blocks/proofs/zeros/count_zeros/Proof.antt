@@ -1,4 +1,4 @@
--- `count_zeros` meets its contract.
+-- Invariant: the zeros counted and those that are left are all of them. What is left falls by a part of at most 240 bytes.
 use borrow.Author.Needs.{needs}
 use mathlib.Core.Path.{_≡_}
 use Prim.Native.Nat.{_+_, _-_, _≤_}

@@ -1,4 +1,4 @@
--- `few_zeros` meets its contract.
+-- Invariant: the zeros counted and those that are left are all of the part's, at most 240, so a byte holds them. What is left falls.
 use mathlib.Core.Path.{_≡_}
 use mathlib.Core.Logic.{⊎-elim}
 use Prim.Native.Nat.{_+_, _-_, _≤_}

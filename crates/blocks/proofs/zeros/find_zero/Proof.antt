@@ -1,4 +1,4 @@
--- `find_zero` meets its contract.
+-- Invariant: no zero up to the place, first by blocks and then byte by byte. What is left falls.
 use borrow.Author.Needs.{needs}
 use mathlib.Core.Path.{_≡_}
 use Prim.Native.Nat.{_-_, _≤_}

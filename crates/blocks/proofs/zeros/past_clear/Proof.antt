@@ -1,4 +1,4 @@
--- `past_clear` meets its contract.
+-- Invariant: no zero up to the place; a block without one moves it by k. What is left falls.
 use borrow.Author.Needs.{needs}
 use mathlib.Core.Path.{_≡_}
 use Prim.Native.Nat.{_+_, _-_, _≤_}

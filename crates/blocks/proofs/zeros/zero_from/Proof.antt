@@ -1,4 +1,4 @@
--- `zero_from` meets its contract.
+-- Eight bytes in two fours, then blocks: each part says that no zero stands before its answer.
 use mathlib.Core.Path.{_≡_}
 use native.Mathlib.Omega.{arith}
 use lib.ListN.{getD}

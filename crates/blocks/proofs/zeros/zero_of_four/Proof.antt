@@ -1,4 +1,4 @@
--- `zero_of_four` meets its contract.
+-- Four tests in order: the first zero is the answer, and none stands before it.
 use mathlib.Core.Path.{_≡_}
 use Prim.Native.Nat.{_+_}
 use native.Mathlib.Omega.{arith}

@@ -1,4 +1,4 @@
--- `char_at` meets its contract.
+-- By the lead, as the definition's first character goes: each width has its law.
 use Rattle.text.proofs.Ranges.{bounds2, bounds3, bounds4}
 use Rattle.text.proofs.Chars.{none-at, one-at, cut-two, two-at, cut-three, three-at, cut-four, four-at, not-four}
 use borrow.Author.Needs.{needs}

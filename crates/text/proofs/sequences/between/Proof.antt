@@ -1,4 +1,4 @@
--- `between` meets its contract.
+-- The two comparisons are the definition's own.
 use Rattle.text.proofs.Ranges.{within-above, within-below}
 use Rattle.text.proofs.sequences.between.Statement.{statement}
 use Rattle.text.proofs.sequences.between.Tie as tie

@@ -1,4 +1,4 @@
--- `four` meets its contract.
+-- The tests in the definition's order; a byte that is missing reads as none.
 use borrow.Author.Needs.{needs}
 use mathlib.Core.Path.{refl}
 use Rattle.text.proofs.Ranges.{and-go, and-stop}

@@ -1,4 +1,4 @@
--- `leads3` meets its contract.
+-- The second byte's range by the lead: E0 and ED have their own.
 use borrow.Author.Needs.{needs}
 use mathlib.Core.Path.{_∙_}
 use Rattle.text.proofs.Ranges.{lead3-first, lead3-surrogate, lead3-low, lead3-high, lead3-plain}

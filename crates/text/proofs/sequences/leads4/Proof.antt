@@ -1,4 +1,4 @@
--- `leads4` meets its contract.
+-- The second byte's range by the lead: F0 and F4 have their own.
 use borrow.Author.Needs.{needs}
 use mathlib.Core.Path.{_∙_}
 use Rattle.text.proofs.Ranges.{lead4-first, lead4-last, lead4-low, lead4-high, lead4-plain}

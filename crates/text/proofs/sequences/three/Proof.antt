@@ -1,4 +1,4 @@
--- `three` meets its contract.
+-- The tests in the definition's order; a byte that is missing reads as none.
 use borrow.Author.Needs.{needs}
 use Rattle.text.proofs.Ranges.{and-go, and-stop}
 use Rattle.text.proofs.sequences.three.Statement.{statement}

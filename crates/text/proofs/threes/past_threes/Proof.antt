@@ -1,4 +1,4 @@
--- `past_threes` meets its contract.
+-- Rows of sixteen characters, then of one: each part leaves the judgement of the rest as it was.
 use mathlib.Core.Path.{_∙_}
 use native.Mathlib.Omega.{arith}
 use borrow.Author.Needs.{needs}

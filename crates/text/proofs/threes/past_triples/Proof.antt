@@ -1,4 +1,4 @@
--- `past_triples` meets its contract.
+-- Invariant: the whole is text exactly when what is left is; a row of three-byte characters moves the place. What is left falls.
 use borrow.Author.Needs.{needs}
 use mathlib.Core.Path.{_≡_, refl, _∙_}
 use Prim.Native.Nat.{_-_, _≤_}

@@ -1,4 +1,4 @@
--- `triples` meets its contract.
+-- Invariant: where no byte is out of its range, the j bytes passed lie in theirs, by their place in the character. The bytes left fall.
 use borrow.Author.Needs.{needs}
 use borrow.Author.Tests.{eqb-true}
 use mathlib.Core.Path.{_≡_, refl}

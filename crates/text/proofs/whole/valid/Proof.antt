@@ -1,4 +1,4 @@
--- `valid` meets its contract.
+-- Invariant: the whole is text exactly when what is left is. What is left falls.
 use borrow.Author.Needs.{needs}
 use mathlib.Core.Path.{_≡_, sym, _∙_}
 use Prim.Native.Nat.{_-_, _≤_}

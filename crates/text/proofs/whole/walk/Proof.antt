@@ -1,4 +1,4 @@
--- `walk` meets its contract.
+-- Invariant: the rest from the start is text exactly when what is left is; a character moves the place. What is left falls.
 use borrow.Author.Needs.{needs}
 use mathlib.Core.Path.{_≡_, refl, sym, _∙_}
 use Prim.Native.Nat.{_-_, _≤_}
