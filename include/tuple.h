@@ -1,6 +1,9 @@
 /* Order-preserving tuple keys: the library's calls from C (x86-64). Link libtuple.a, which `rt staticlib tuple` writes to target/staticlib/.
  *
- * A slice is a pointer and a length in elements; an empty one may have any pointer. A buffer that is written must not overlap another slice of its call.
+ * A slice is a pointer and a length in elements; an empty one may have any pointer. Three things are the caller's, and nothing checks them:
+ *   - a buffer that is written overlaps no other slice of its call: with a pool inside its buffer, tuple_replace may answer 0 and leave a key that is not the value's;
+ *   - a pointer is aligned as its type in C asks (uint32_t *, uint64_t *);
+ *   - the thread has 160 KB of stack left: no call takes more.
  * Every call is total: it answers, or refuses with a number and a detail. An accepted answer has refusal 0 and detail 0. A refused one has 0 in every field
  * but refusal, detail, the values begun and a cursor or reader, and then no byte of a lent buffer has changed. An accepted call leaves what it does not write as it was.
  * No call allocates, or keeps anything for the next.
@@ -97,11 +100,12 @@ tuple_sheet tuple_check_key(const uint32_t *type, size_t type_len, const uint8_t
 
 /* length: the place behind the field that starts at `start`, found by its marks alone; refusals 1, 2, 3, 5, 6. A null at depth 0 is 00, or 00 FF where that is required. */
 tuple_length tuple_skip(const uint8_t *bytes, size_t bytes_len, size_t start, bool require_escape_null);
-/* how two values compare, which is how their keys do; refusal 16 */
+/* how two values compare: where they are of one type, as their keys do; refusal 16 */
 tuple_order tuple_compare(const uint64_t *words_a, size_t words_a_len, const uint8_t *pool_a, size_t pool_a_len, const uint64_t *words_b, size_t words_b_len, const uint8_t *pool_b, size_t pool_b_len);
-/* the least string above every string that begins with the prefix; refusals 19, 17 */
+/* an end above every string that begins with the prefix; refusals 19, 17 */
 tuple_length tuple_strinc(const uint8_t *prefix, size_t prefix_len, uint8_t *out, size_t out_len);
-/* the key through a field with FF behind: above every key with the same fields up to there, and not above others; refusal 17 */
+/* the key through a field with FF behind: above every key with the same fields up to there, and not above any key whose fields up to there are greater;
+ * refusal 17 */
 tuple_length tuple_above_field(const uint8_t *key, size_t key_len, uint8_t *out, size_t out_len);
 /* the two ends of the keys of a record type with the same first k fields as this one; refusals in order: 15, 18, decode_key's, 17 (the lower end first) */
 tuple_ends tuple_bounds(const uint32_t *type, size_t type_len, const uint8_t *key, size_t key_len, size_t k, uint8_t *lower, size_t lower_len, uint8_t *upper, size_t upper_len);

@@ -41,6 +41,7 @@
 struct Readme;
 
 mod cursor;
+mod deep;
 #[allow(unsafe_code)]
 mod ffi;
 mod field;
@@ -190,7 +191,7 @@ pub fn skip(bytes: &[u8], start: usize, require_escape_null: bool) -> Result<usi
     ffi::skip(bytes, start, require_escape_null).accepted().map(|answer| answer.length as usize)
 }
 
-/// How two values compare, which is how their keys do. Refusal: 16.
+/// How two values compare: where they are of one type, as their keys do. Refusal: 16.
 ///
 /// ```
 /// use std::cmp::Ordering;
@@ -202,7 +203,7 @@ pub fn compare(a: &Value, b: &Value) -> Result<Ordering, Refusal> {
     ffi::compare(&a.sheet(), &b.sheet()).accepted().map(|answer| answer.order.cmp(&0))
 }
 
-/// The least string above every string that begins with the prefix. It is no end for the keys of a field: see [`above_field`]. Refusal: 19.
+/// An end above every string that begins with the prefix. It is no end for the keys of a field: see [`above_field`]. Refusal: 19.
 ///
 /// ```
 /// assert_eq!(tuple::strinc(&[0x0A, 0xFF]), Ok(vec![0x0B]));
@@ -212,7 +213,7 @@ pub fn strinc(prefix: &[u8]) -> Result<Vec<u8>, Refusal> {
     room::filled(prefix.len(), |out| ffi::strinc(prefix, out))
 }
 
-/// The key through a field with FF behind: above every key with the same fields up to there, and not above others.
+/// The key through a field with FF behind: above every key with the same fields up to there, and not above any key whose fields up to there are greater.
 ///
 /// ```
 /// assert_eq!(tuple::above_field(&[0x53, 0x0A, 0x00]), [0x53, 0x0A, 0x00, 0xFF]);

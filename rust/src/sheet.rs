@@ -118,6 +118,9 @@ pub struct Alternative {
 
 /// A type of keys or of their fields. Fields and alternatives go by position and discriminant; they have no names.
 ///
+/// A type may nest as deep as memory allows: it is dropped, cloned, compared, hashed and shown without recursion. So it has a `Drop`, and a pattern borrows
+/// its parts; [`std::mem::take`] moves them out.
+///
 /// ```
 /// use tuple::Type;
 ///
@@ -125,7 +128,6 @@ pub struct Alternative {
 /// let tank = Type::record([Type::Bytes, Type::Int]);
 /// assert_eq!(tank.sheet(), [5, 2, 3, 1]);
 /// ```
-#[derive(Debug, Clone, PartialEq, Eq, Hash)]
 pub enum Type {
     /// an integer of 64 bits
     Int,
@@ -201,8 +203,10 @@ impl Type {
     }
 }
 
-/// A value. The variants stand in the order in which kinds compare, so that [`Ord`] is the order of values and of their keys; [`compare`](crate::compare)
-/// is the library's answer to the same question.
+/// A value. The variants stand in the order in which kinds compare, so that [`Ord`] is the order of values, and for values of one type that of their keys;
+/// [`compare`](crate::compare) is the library's answer to the same question.
+///
+/// A value may nest as deep as memory allows, as a [`Type`] may.
 ///
 /// ```
 /// use tuple::Value;
@@ -213,7 +217,6 @@ impl Type {
 /// assert_eq!(tank.sheet().pool(), [0x0A, 0x00]);
 /// assert!(Value::from("tank") < Value::Int(i64::MIN) && Value::Int(-1) < Value::Int(0));
 /// ```
-#[derive(Debug, Clone, PartialEq, Eq, PartialOrd, Ord, Hash)]
 pub enum Value {
     /// nothing; it fits no type
     Null,
@@ -465,12 +468,14 @@ mod tests {
     }
 
     #[test]
-    fn a_value_as_deep_as_memory_allows_has_a_sheet() {
+    fn a_value_4_000_unions_deep_has_a_sheet_and_is_read_back() {
         let mut value = Value::Int(0);
         for _ in 0..4_000 {
             value = Value::union(1, value);
         }
-        assert_eq!(value.sheet().words().len(), 8_002);
+        let sheet = value.sheet();
+        assert_eq!(sheet.words().len(), 8_002);
+        assert_eq!(Value::read(sheet.words(), sheet.pool()), Some(value));
     }
 
     #[test]
