@@ -10,7 +10,8 @@ use Rattle.format.specs.Utf8.{firstChar, codeOf, utf8}
 use Rattle.format.specs.Read.{startsFF}
 use Rattle.format.specs.Chars.{Step, leadWidth, finished, gave, sequenceAt, stepOn, stepAt, opened}
 use Rattle.format.proofs.SheetPlaces.{front}
-use Rattle.chars.specs.Reader.{openedOf}
+use Rattle.chars.specs.Reader.{Opens, refusedAs}
+use Rattle.chars.specs.declared.Opening.{Opening}
 
 -- ---- the lead's width
 
@@ -91,17 +92,21 @@ module _ (s : List ℕ) (at : ℕ) where
 
 -- ---- the mark of a string
 
-pub open-eof : (s : List ℕ) → length s ≡ 0 → openedOf 1 0 (drop 1 s) ≡ opened s
+pub open-eof : (s : List ℕ) → length s ≡ 0 → Opens s 1 0 true
 unfolding opened
-open-eof [] h = refl
+open-eof [] h = record { answer = refl; no-detail = λ e. refl; finished = refl }
 open-eof (b ∷ s) h = absurd (omega arith)
 
-pub open-good : (s : List ℕ) → (length s ≡ 0 → ⊥) → getD s 0 0 ≡ 0x21 → openedOf 0 0 (drop 1 s) ≡ opened s
+pub open-good : (s : List ℕ) → (length s ≡ 0 → ⊥) → getD s 0 0 ≡ 0x21 → Opens s 0 0 false
 unfolding opened
 open-good [] l h = absurd (l refl)
-open-good (b ∷ s) l h = rw (eq-eqb b 0x21 h)
+open-good (b ∷ s) l h = record { answer = rw (eq-eqb b 0x21 h); no-detail = λ e. refl; finished = refl }
 
-pub open-mark : (s : List ℕ) → (length s ≡ 0 → ⊥) → (getD s 0 0 ≡ 0x21 → ⊥) → (d : ℕ) → d ≡ getD s 0 0 → openedOf 2 d (drop 1 s) ≡ opened s
+-- refusal 2 is not 0, so its detail is free to be the mark
+pub open-mark : (s : List ℕ) → (length s ≡ 0 → ⊥) → (getD s 0 0 ≡ 0x21 → ⊥) → (d : ℕ) → d ≡ getD s 0 0 → Opens s 2 d true
 unfolding opened
 open-mark [] l h d e = absurd (l refl)
-open-mark (b ∷ s) l h d e = rw (ne-eqb b 0x21 h, e)
+open-mark (b ∷ s) l h d e = record { answer = rw (ne-eqb b 0x21 h, e); no-detail = λ z. absurd (omega arith); finished = refl }
+
+pub as-refused : (s : List ℕ) (n d : ℕ) (r : Opening) → r ≡ refusedAs n d → Opens s n d true → Opens s (r .refusal) (r .detail) (r .finished)
+as-refused s n d r e o = rw e o

@@ -4,7 +4,7 @@ ghost use mathlib.Core.Bool.{false};
 ghost use Prim.Native.Nat.{_<_, _+_};
 ghost use lib.ListN.{length, getD, drop};
 ghost use Rattle.format.specs.Chars as chars;
-ghost use Rattle.chars.specs.Reader.{stepOf, steppedOf, openedOf, closed};
+ghost use Rattle.chars.specs.Reader.{stepOf, steppedOf, refusedAs, Opens, Begins};
 
 // A reader of one stored string. Any place and any flag will do.
 pub struct StrChars<'a> {
@@ -123,6 +123,16 @@ pub struct Opening {
     pub finished: bool,
 }
 
+fn refused(refusal: u32, detail: u64) -> Opening
+    ensures { λ r. ⌜ r ≡ refusedAs refusal detail ⌝ }
+{
+    Opening {
+        refusal,
+        detail,
+        finished: true,
+    }
+}
+
 fn wide(x: u8) -> u64
     ensures { λ r. ⌜ r ≡ x ⌝ }
 {
@@ -131,14 +141,10 @@ fn wide(x: u8) -> u64
 
 // The mark of a string: the work of `str_chars`.
 pub fn open_at(bytes: &[u8]) -> Opening
-    ensures { λ r. ⌜ (openedOf (r .refusal) (r .detail) (drop 1 (now (bytes .entry))) ≡ chars.opened (now (bytes .entry))) × (r .finished ≡ closed (r .refusal)) ⌝ }
+    ensures { λ r. ⌜ Opens (now (bytes .entry)) (r .refusal) (r .detail) (r .finished) ⌝ }
 {
     if bytes.len() == 0 {
-        return Opening {
-            refusal: format::UNEXPECTED_EOF,
-            detail: 0,
-            finished: true,
-        };
+        return refused(format::UNEXPECTED_EOF, 0);
     }
     let mark = bytes[0];
     if mark == format::MARK_STRING {
@@ -148,11 +154,7 @@ pub fn open_at(bytes: &[u8]) -> Opening
             finished: false,
         };
     }
-    Opening {
-        refusal: format::UNEXPECTED_MARK,
-        detail: wide(mark),
-        finished: true,
-    }
+    refused(format::UNEXPECTED_MARK, wide(mark))
 }
 
 // The bytes behind the mark.
@@ -187,9 +189,7 @@ pub struct Opened<'a> {
 
 // A reader of the string that bytes begin with, behind its mark.
 pub fn str_chars<'a>(bytes: &'a [u8]) -> Opened<'a>
-    ensures { λ o. ⌜ (openedOf (o .refusal) (o .detail) (now (o .chars .bytes)) ≡ chars.opened (now (bytes .entry)))
-        × (o .chars .at ≡ 0)
-        × (o .chars .done ≡ closed (o .refusal)) ⌝ }
+    ensures { λ o. ⌜ Begins (now (bytes .entry)) (o .refusal) (o .detail) (now (o .chars .bytes)) (o .chars .at) (o .chars .done) ⌝ }
 {
     let o = open_at(bytes);
     let rest = contents(bytes);

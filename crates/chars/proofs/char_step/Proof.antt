@@ -1,4 +1,4 @@
--- `char_step` meets its contract.
+-- `char_step` meets its contract: the lead's width is the definition's, and what is judged is that many bytes from the place on; a law for each of its three ways out.
 use mathlib.Core.Path.{_≡_, sym, _∙_}
 use Prim.Native.Nat.{_+_, _-_}
 use native.Mathlib.Omega.{arith}
@@ -21,10 +21,9 @@ finished-requires c κs = search needs
 
 returns : tie.Need-returns
 returns c =
-    let a = c .before .before .before .before .before .args in
-    let p = c .before .before .before .before .before .pre in
-    let w = c .before .before .utf8-width .result in
-    c .finished .ensures ∙ char-short (a .s .now) (a .at) (p .0) (p .1) w (c .before .before .utf8-width .ensures) (c .before .if1 .taken)
+    let w = c .before .before in
+    let b = w .before .before .before in
+    c .finished .ensures ∙ char-short (b .args .s .now) (b .args .at) (b .pre .0) (b .pre .1) (w .utf8-width .result) (w .utf8-width .ensures) (c .before .if1 .taken)
 
 add-next : tie.Need-add-next
 add-next c = search needs
@@ -49,22 +48,26 @@ gave-requires c κs = search needs
 
 returns-2 : tie.Need-returns-2
 returns-2 c =
-    let a = c .before .before .before .before .before .before .before .before .before .args in
-    let p = c .before .before .before .before .before .before .before .before .before .pre in
-    let w = c .before .before .before .before .before .before .utf8-width .result in
-    let e : a .at + w - a .at ≡ w = omega arith in
-    c .gave .ensures ∙ char-good (a .s .now) (a .at) (p .0) (p .1) w (c .before .before .before .before .before .before .utf8-width .ensures) (c .before .before .before .before .before .if1 .left) (sym (rw e at (c .before .before .before .valid .ensures)) ∙ c .before .before .if2 .taken) (c .before .char-at .result .code) (c .before .char-at .ensures .code)
+    let v = c .before .before .before in
+    let w = v .before .before .before in
+    let b = w .before .before .before in
+    let e : b .args .at + w .utf8-width .result - b .args .at ≡ w .utf8-width .result = omega arith in
+    let text = sym (rw e at (v .valid .ensures)) ∙ c .before .before .if2 .taken in
+    let code = c .before .char-at in
+    c .gave .ensures
+    ∙ char-good (b .args .s .now) (b .args .at) (b .pre .0) (b .pre .1) (w .utf8-width .result) (w .utf8-width .ensures) (v .before .before .if1 .left) text (code .result .code) (code .ensures .code)
 
 finished-requires-2 : tie.Need-finished-requires-2
 finished-requires-2 c κs = search needs
 
 returns-3 : tie.Need-returns-3
 returns-3 c =
-    let a = c .before .before .before .before .before .before .before .before .args in
-    let p = c .before .before .before .before .before .before .before .before .pre in
-    let w = c .before .before .before .before .before .utf8-width .result in
-    let e : a .at + w - a .at ≡ w = omega arith in
-    c .finished2 .ensures ∙ char-bad (a .s .now) (a .at) (p .0) (p .1) w (c .before .before .before .before .before .utf8-width .ensures) (c .before .before .before .before .if1 .left) (sym (rw e at (c .before .before .valid .ensures)) ∙ c .before .if2 .left)
+    let v = c .before .before in
+    let w = v .before .before .before in
+    let b = w .before .before .before in
+    let e : b .args .at + w .utf8-width .result - b .args .at ≡ w .utf8-width .result = omega arith in
+    let bad = sym (rw e at (v .valid .ensures)) ∙ c .before .if2 .left in
+    c .finished2 .ensures ∙ char-bad (b .args .s .now) (b .args .at) (b .pre .0) (b .pre .1) (w .utf8-width .result) (w .utf8-width .ensures) (v .before .before .if1 .left) bad
 
 pub char-step-spec : {M : Type 1} → statement M
 char-step-spec =

@@ -1,4 +1,4 @@
--- `contents` meets its contract.
+-- `contents` meets its contract: behind the first of no bytes there are none; else the part from 1 on is all of the rest.
 use mathlib.Core.Path.{sym}
 use Prim.Native.Nat.{_-_, _≤_}
 use native.Mathlib.Omega.{arith}

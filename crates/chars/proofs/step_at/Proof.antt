@@ -1,4 +1,4 @@
--- `step_at` meets its contract.
+-- `step_at` meets its contract: a finished reader by the definition itself, no bytes left by a law, and else by what the two kinds of step promise.
 use mathlib.Core.Path.{_∙_}
 use Rattle.format.specs.Chars.{stepAt}
 use borrow.Author.Needs.{needs}

@@ -1,5 +1,5 @@
 -- `chars::str_chars` meets its contract: a walk of its MIR, by hand. `open_at` and `contents` are called on the slice, and of what they answer a reader is made and put beside the refusal, in a struct that holds it.
-use mathlib.Core.Path.{_≡_, refl, ap, subst, _∙_}
+use mathlib.Core.Path.{_≡_, refl, ap, subst}
 use Prim.Native.Nat.{ℕ}
 use mathlib.Core.List.{List, [], _∷_}
 use lib.Dec.{T as Holds, lit<}
@@ -39,8 +39,7 @@ use denote.Triple.Table.{entered, cited}
 use denote.Triple.Walked.{says, Stays, stay-none-slice, walkOf, goes-none-slice, Walks, ends-at, walked, walk-meets}
 use denote.Exit.{yes}
 use denote.Triple.Clauses.{ensured, lasts}
-use Rattle.format.specs.Chars as chars
-use Rattle.chars.specs.Reader.{openedOf, closed}
+use Rattle.chars.specs.Reader.{Opens}
 use Rattle.chars.specs.declared.StrChars.{StrChars}
 use Rattle.chars.specs.declared.Opening.{Opening}
 use Rattle.chars.specs.declared.Opened.{Opened}
@@ -107,11 +106,11 @@ module _ {M : Type 1} (𝓤 : URA M) (H : Heap 𝓤) (A : Atoms 𝓤) (W : Given
       qed W (‵ Own ∷ (‵ (flft κ q) ⊛ ‵ ftrue) ∷ []) ∵ use1 W (‵ Own ⊛ ‵ Own) (shr-slice-copy 𝓤 H A W (named 0) κ u8 .twice s (v ∷ [])) $ split ! $
       nothing ! $ move ! (1 ∷ 0 ∷ []) $ fjoin ! $ move ! (2 ∷ 0 ∷ []) $ use2 W (raw (Contents 𝓤 H A mem run .pre to-behind)) (qed W ((‵ (flft κ q) ⊛ ‵ ftrue) ∷ ‵ (owns (ShrSlice (named 0) κ u8 ∷ []) (s, tt) (v ∷ [], tt)) ∷ []) ∵ join ! $ frame ! $ done !) $ frame ! $ done !
 
-  abbrev Opens : Opening → Type 0
-  Opens o = (openedOf (o .refusal) (o .detail) (drop 1 (now s)) ≡ chars.opened (now s)) × (o .finished ≡ closed (o .refusal))
+  abbrev Said : Opening → Type 0
+  Said o = Opens (now s) (o .refusal) (o .detail) (o .finished)
 
-  open-said : (o : Opening) → ent 𝓤 (ensured 𝓤 H A opens.ended (opens.clauses 𝓤 H A mem run) (κ, tt) (s, tt) tt o) (fact 𝓤 (Opens o))
-  open-said o = exE 𝓤 _ (λ ws. snd∗ 𝓤 (sem 𝓤 H A (lasts opens.ended (κ, tt) (s, tt) ws)) (fact 𝓤 (Opens o)))
+  open-said : (o : Opening) → ent 𝓤 (ensured 𝓤 H A opens.ended (opens.clauses 𝓤 H A mem run) (κ, tt) (s, tt) tt o) (fact 𝓤 (Said o))
+  open-said o = exE 𝓤 _ (λ ws. snd∗ 𝓤 (sem 𝓤 H A (lasts opens.ended (κ, tt) (s, tt) ws)) (fact 𝓤 (Said o)))
 
   behind-said : (r : RefT (List ℕ)) → ent 𝓤 (ensured 𝓤 H A behind.ended (behind.clauses 𝓤 H A mem run) (κ, tt) (s, tt) tt r) (fact 𝓤 (now r ≡ drop 1 (now s)))
   behind-said r = exE 𝓤 _ (λ ws. snd∗ 𝓤 (sem 𝓤 H A (lasts behind.ended (κ, tt) (s, tt) ws)) (fact 𝓤 (now r ≡ drop 1 (now s))))
@@ -131,11 +130,11 @@ module _ {M : Type 1} (𝓤 : URA M) (H : Heap 𝓤) (A : Atoms 𝓤) (W : Given
   typed-rest : (r : RefT (List ℕ)) (u : Val) → Is (ShrSlice (named 0) κ u8) r (u ∷ []) → WT (sliceVal (r .ptr) (length (r .now)))
   typed-rest r u is = shr-slice-lawful 𝓤 H A W (named 0) κ u8 .typed r (slice-vals r) (subst (Is (ShrSlice (named 0) κ u8) r) (shr-slice-tells (named 0) κ u8 r _ is) is) .0 .1
 
-  exits : (o : Opening) (r : RefT (List ℕ)) → WT (S′.lowered o) → Opens o → now r ≡ drop 1 (now s) → ent 𝓤 (⋆ 𝓤 H A (‵ (ShrSlice (named 0) κ u8 .own r (slice-vals r)) ∷ (‵ (flft κ q) ⊛ ‵ ftrue) ∷ ‵ Own ∷ ‵ (S.the-row .own o (S′.lowered o ∷ [])) ∷ [])) (Post (N′.lowered (opened o r)))
+  exits : (o : Opening) (r : RefT (List ℕ)) → WT (S′.lowered o) → Said o → now r ≡ drop 1 (now s) → ent 𝓤 (⋆ 𝓤 H A (‵ (ShrSlice (named 0) κ u8 .own r (slice-vals r)) ∷ (‵ (flft κ q) ⊛ ‵ ftrue) ∷ ‵ Own ∷ ‵ (S.the-row .own o (S′.lowered o ∷ [])) ∷ [])) (Post (N′.lowered (opened o r)))
   exits o r wt e f =
       qed W (‵ (ShrSlice (named 0) κ u8 .own r (slice-vals r)) ∷ (‵ (flft κ q) ⊛ ‵ ftrue) ∷ ‵ Own ∷ ‵ (S.the-row .own o (S′.lowered o ∷ [])) ∷ []) ∵
       suffices ! _ (ends-at 𝓤 H A make.ended stayed (make.clauses 𝓤 H A mem run) W (((κ, tt), (q, tt), tt, (s, tt), (v ∷ [], tt)), tt) (N′.lowered (opened o r)) (opened o r) (tt, tt) (tt, tt)) $
-      says ! (ap (openedOf (o .refusal) (o .detail)) f ∙ e .0, refl, e .1) $
+      says ! (record { opens = e; held = f; at-start = refl }) $
       move ! (1 ∷ []) $ frame ! $ move ! (2 ∷ []) $ let-go ! $ move ! (1 ∷ []) $ nothing ! $ move ! (1 ∷ 0 ∷ []) $ fjoin ! $ frame ! $
       -- [what the bytes behind the mark own]: with the facts of at and done, what the reader owns
       nothing ! $ owned ! bool (Is bool) (bool-makes 𝓤 H A W) (o .finished) _ refl $ fjoin ! $ owned ! usize (Is usize) (uint-makes 𝓤 H A W w64) 0 _ (refl, lit< tt) $ fjoin ! $ move ! (1 ∷ 0 ∷ []) $ fjoin ! $
@@ -152,7 +151,7 @@ module _ {M : Type 1} (𝓤 : URA M) (H : Heap 𝓤) (A : Atoms 𝓤) (W : Given
         move ! (12 ∷ []) $ use1 W (raw (OpenAt 𝓤 H A mem run .pre to-open) ⊛ ‵ Own) goes-open $ split ! $
         calls-at ! fm (OpenAt 𝓤 H A mem run) known-open to-open (and-then ! (load ! (from ! (stop !)) (look ! 10 refl)) (no-more !)) (λ u.
         use1 W (later (some (λ (o : Opening). ((‵ (flft κ q) ⊛ ‵ ftrue) ⊛ ‵ (S.the-row .own o (u ∷ []))) ⊛ raw (ensured 𝓤 H A opens.ended (opens.clauses 𝓤 H A mem run) (κ, tt) (s, tt) tt o)))) (id⊢ 𝓤 _) $ await ! tt $ pick ! (λ o.
-        split ! $ move ! (1 ∷ []) $ use1 W (raw (fact 𝓤 (Opens o))) (open-said o) $ heard ! (Opens o) (λ e. split ! $ move ! (1 ∷ []) $
+        split ! $ move ! (1 ∷ []) $ use1 W (raw (fact 𝓤 (Said o))) (open-said o) $ heard ! (Said o) (λ e. split ! $ move ! (1 ∷ []) $
         -- [what the opening owns; the token; what bytes owns; _5; …; _4; …; _3; …; room for _2; …; _1; …; room for _0; …]
         peeks ! S.the-row (Is S.the-row) (shows 𝓤 H A S.the-row) o (u ∷ []) (λ is.
         land ! (from ! (stop !)) (init ! 9 refl (LL.lawful S.the-type S′.the-laws 𝓤 H A W .typed o _ is .0)) $

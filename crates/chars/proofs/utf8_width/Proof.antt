@@ -1,4 +1,4 @@
--- `utf8_width` meets its contract.
+-- `utf8_width` meets its contract: a law of the lead's width for each range of leads.
 use Rattle.chars.proofs.StepLaws.{width-low, width-2, width-3, width-4, width-high}
 use Rattle.chars.proofs.utf8_width.Statement.{statement}
 use Rattle.chars.proofs.utf8_width.Tie as tie

@@ -1,4 +1,4 @@
--- `zero_step` meets its contract.
+-- `zero_step` meets its contract: a law for each way out, by the byte behind the 00.
 use mathlib.Core.Path.{_∙_}
 use borrow.Author.Needs.{needs}
 use Rattle.chars.proofs.StepLaws.{zero-last, zero-end, zero-char}
@@ -13,9 +13,8 @@ finished-requires c κs = search needs
 
 returns : tie.Need-returns
 returns c =
-    let a = c .before .before .before .args in
-    let p = c .before .before .before .pre in
-    c .finished .ensures ∙ zero-last (a .s .now) (a .at) (p .0) (p .1) (c .before .if1 .taken)
+    let b = c .before .before .before in
+    c .finished .ensures ∙ zero-last (b .args .s .now) (b .args .at) (b .pre .0) (b .pre .1) (c .before .if1 .taken)
 
 shared-slice-read-if2 : tie.Need-shared-slice-read-if2
 shared-slice-read-if2 c = search needs
@@ -25,9 +24,9 @@ finished-requires-2 c κs = search needs
 
 returns-2 : tie.Need-returns-2
 returns-2 c =
-    let a = c .before .before .before .before .before .args in
-    let p = c .before .before .before .before .before .pre in
-    c .finished2 .ensures ∙ zero-end (a .s .now) (a .at) (p .0) (p .1) (c .before .before .before .if1 .left) (c .before .if2 .taken)
+    let i = c .before .before .before in
+    let b = i .before .before in
+    c .finished2 .ensures ∙ zero-end (b .args .s .now) (b .args .at) (b .pre .0) (b .pre .1) (i .if1 .left) (c .before .if2 .taken)
 
 add-gave : tie.Need-add-gave
 add-gave c = search needs
@@ -37,9 +36,9 @@ gave-requires c κs = search needs
 
 returns-3 : tie.Need-returns-3
 returns-3 c =
-    let a = c .before .before .before .before .before .args in
-    let p = c .before .before .before .before .before .pre in
-    c .gave .ensures ∙ zero-char (a .s .now) (a .at) (p .0) (p .1) (c .before .before .before .if1 .left) (c .before .if2 .left)
+    let i = c .before .before .before in
+    let b = i .before .before in
+    c .gave .ensures ∙ zero-char (b .args .s .now) (b .args .at) (b .pre .0) (b .pre .1) (i .if1 .left) (c .before .if2 .left)
 
 pub zero-step-spec : {M : Type 1} → statement M
 zero-step-spec =
