@@ -1,0 +1,2 @@
+-- Laws of the steps noted.
+pub mod StepLaws

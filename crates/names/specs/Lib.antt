@@ -1,0 +1,2 @@
+-- What a reader's steps give.
+pub mod Steps
