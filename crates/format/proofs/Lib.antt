@@ -14,6 +14,7 @@
 -- CompareLaws  numbers and byte strings: which of three it is, both ways round, equal exactly if the same
 -- ScalarLaws   integers, references and runs compare as bytes as they do as numbers and byte strings
 -- OrderLaws    the order law: values compare as their bytes, whatever follows; and so do groups
+-- MarkLaws     the first byte of a value tells its kind
 -- KeyLaws      bare fields compare as their bytes
 -- EqualLaws    values compare equal exactly if they are the same
 -- EncodeLaws   encodings and keys of one type compare as their values, and are equal exactly if these are
@@ -51,6 +52,8 @@
 -- EncodePlaces   groups from their second word on, and the fields behind the first
 -- FitLaws      what refuses a value, by its kind
 -- PlainLaws    a value that is no group, by its words
+-- TypeKinds    the type at a place by its kind, with its parts
+-- ValueKinds   the value at a place by its kind, with its parts
 --
 -- Demand3      demand 3 of the request, in full
 -- BookExample  a list of replacements, computed by the call and by the book
@@ -64,6 +67,7 @@ pub mod Tests
 pub mod CompareLaws
 pub mod ScalarLaws
 pub mod OrderLaws
+pub mod MarkLaws
 pub mod KeyLaws
 pub mod EqualLaws
 pub mod EncodeLaws
@@ -95,5 +99,7 @@ pub mod AfreshLaws
 pub mod EncodePlaces
 pub mod FitLaws
 pub mod PlainLaws
+pub mod TypeKinds
+pub mod ValueKinds
 pub mod Demand3
 pub mod BookExample
