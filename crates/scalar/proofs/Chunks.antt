@@ -7,13 +7,12 @@ use native.Mathlib.Omega.{arith}
 use lib.ListN.{length, getD, drop, length-append, drop-of-length-le}
 use lib.Seq.{slice, length-slice, drop-cons, drop-drop}
 use Rattle.format.specs.Scalar.{escaped}
-use Rattle.format.specs.Read.{Read, got, bad, consRead, getRun}
 use Rattle.format.specs.Fields.{put}
 use Rattle.blocks.specs.Zeros.{NoZero, ZeroFrom}
 use Rattle.blocks.proofs.Spans.{drop-split, span-slice}
 use Rattle.blocks.proofs.Put.{put-put, Left, left-chunk}
 use Rattle.scalar.specs.Runs.{unescape}
-use Rattle.scalar.proofs.Escapes.{escaped-none, escaped-byte, escaped-zero, unescape-none, unescape-byte, unescape-zero, run-byte}
+use Rattle.scalar.proofs.Escapes.{escaped-none, escaped-byte, escaped-zero, unescape-none, unescape-byte, unescape-zero}
 
 pub drop-one : (s : List ℕ) (i : ℕ) → i < length s → drop i s ≡ getD s i 0 ∷ drop (i + 1) s
 drop-one s i h = rw add-one (drop-cons s i 0 h)
@@ -33,23 +32,6 @@ unescape-free : (t u : List ℕ) → Free t → unescape (t ++ u) ≡ t ++ unesc
 unescape-free [] u h = refl
 unescape-free (b ∷ t) u h = unescape-byte b (t ++ u) (h 0 (omega arith)) ∙ ap (λ (l : List ℕ). b ∷ l) (unescape-free t u (free-rest b t h))
 
--- a piece of payload in front of what is read
-abbrev pub prepended : List ℕ → Read (List ℕ) → Read (List ℕ)
-prepended q (got p r) = got (q ++ p) r
-prepended q (bad n d) = bad n d
-
-prepended-none : (x : Read (List ℕ)) → prepended [] x ≡ x
-prepended-none (got p r) = refl
-prepended-none (bad n d) = refl
-
-prepended-cons : (b : ℕ) (q : List ℕ) (x : Read (List ℕ)) → consRead b (prepended q x) ≡ prepended (b ∷ q) x
-prepended-cons b q (got p r) = refl
-prepended-cons b q (bad n d) = refl
-
-run-free : (t u : List ℕ) → Free t → getRun (t ++ u) ≡ prepended t (getRun u)
-run-free [] u h = sym (prepended-none (getRun u))
-run-free (b ∷ t) u h = run-byte b (t ++ u) (h 0 (omega arith)) ∙ ap (consRead b) (run-free t u (free-rest b t h)) ∙ prepended-cons b t (getRun u)
-
 module _ (s : List ℕ) (i z : ℕ) (f : ZeroFrom s i z) where
   pub chunk-free : Free (slice i z s)
   chunk-free = span-slice s (λ b. b ≡ 0 → ⊥) i z (f .inside) (f .none)
@@ -65,9 +47,6 @@ module _ (s : List ℕ) (i z : ℕ) (f : ZeroFrom s i z) where
 
   pub unescape-chunk : unescape (drop i s) ≡ slice i z s ++ unescape (drop z s)
   unescape-chunk = ap unescape chunk-split ∙ unescape-free (slice i z s) (drop z s) chunk-free
-
-  pub run-chunk : getRun (drop i s) ≡ prepended (slice i z s) (getRun (drop z s))
-  run-chunk = ap getRun chunk-split ∙ run-free (slice i z s) (drop z s) chunk-free
 
   pub escaped-ahead : length (escaped (drop i s)) ≡ (z - i) + length (escaped (drop z s))
   escaped-ahead = ap length escaped-chunk ∙ length-append (slice i z s) _ ∙ ap (λ (n : ℕ). n + length (escaped (drop z s))) chunk-long

@@ -98,12 +98,13 @@ pub run-ends : (c : ℕ) (t : List ℕ) → (c ≡ 0xFF → ⊥) → getRun (0 �
 unfolding getRun afterZero
 run-ends c t h = rw (ne-eqb _ _ h)
 
--- the run that s begins with: its terminator's place, its payload and the bytes behind it
+-- the run that s begins with: its terminator's place, its payload and the bytes behind it. A zero of the payload is one in the run
 pub record RunAt (s : List ℕ) (e : ℕ) (p r : List ℕ) : Type 0 where
   pub inside : e < length s
   pub rest : r ≡ drop (e + 1) s
   pub payload : p ≡ unescape (take e s)
   pub escapes : e ≡ length p + zeros p
+  pub zeroed : zeros (take e s) ≡ zeros p
 
 cons-got : (b : ℕ) (x : Read (List ℕ)) {p r : List ℕ} → consRead b x ≡ got p r → (q : List ℕ) × (x ≡ got q r) × (p ≡ b ∷ q)
 cons-got b (got q s) {p} {r} h =
@@ -123,6 +124,7 @@ at-byte b {t} {e} {p} {r} h a =
       rest = rw two (a .rest);
       payload = rw one (ap (λ (l : List ℕ). b ∷ l) (a .payload) ∙ sym (unescape-byte b (take e t) h));
       escapes = rw (zeros-byte b p h) (omega arith);
+      zeroed = rw (one, zeros-byte b p h) (zeros-byte b (take e t) h ∙ a .zeroed);
     }
 
 at-escape : {t : List ℕ} {e : ℕ} {p r : List ℕ} → RunAt t e p r → RunAt (0 ∷ 0xFF ∷ t) (e + 2) (0 ∷ p) r
@@ -136,10 +138,11 @@ at-escape {t} {e} {p} {r} a =
       rest = rw three (a .rest);
       payload = rw two (ap (λ (l : List ℕ). 0 ∷ l) (a .payload) ∙ sym (unescape-zero 0 (0xFF ∷ take e t) refl));
       escapes = rw (zeros-zero 0 p refl) (omega arith);
+      zeroed = rw two (omega (arith, a .zeroed, zeros-zero 0 p refl, zeros-zero 0 (0xFF ∷ take e t) refl, zeros-byte 0xFF (take e t) (λ y. omega arith)));
     }
 
 at-end : (t : List ℕ) → RunAt (0 ∷ t) 0 [] t
-at-end t = record { inside = omega arith; rest = refl; payload = sym unescape-none; escapes = rw zeros-nil }
+at-end t = record { inside = omega arith; rest = refl; payload = sym unescape-none; escapes = rw zeros-nil; zeroed = refl }
 
 module _ (r : List ℕ) where
   -- a run of these bytes is known where it ends

@@ -5,9 +5,11 @@ pub mod Widths
 pub mod Numbers
 pub mod Reading
 pub mod Integers
+pub mod Unjudged
 pub mod Escapes
 pub mod Chunks
 pub mod Measures
+pub mod GroupLaws
 pub mod Rooms
 pub mod References
 pub mod Placing

@@ -8,6 +8,7 @@ use lib.Seq.{drop-drop}
 use Rattle.format.specs.Answer.{Answer, ok, refused}
 use Rattle.format.specs.Read.{Read, got, bad, thenRead, marked}
 use Rattle.format.specs.Fields.{Taken, takenFrom}
+use Rattle.format.specs.Skip.{endOf}
 use Rattle.format.proofs.Tests.{eqb-test, passed}
 use borrow.Author.Tests.{eq-eqb, ne-eqb}
 
@@ -103,3 +104,24 @@ module _ {A : Type 0} where
 
   pub refuses : (b : List ℕ) {x : Read A} {n d : ℕ} → refused n d ≡ takenFrom b x → x ≡ bad n d
   refuses b {x} {n} {d} p = answer-bad b x n d p
+
+-- ---- a step that has no value: how many bytes it took
+
+end-answer : (b : List ℕ) (x : Read Unit) (n : ℕ) → ((u : Unit) (r : List ℕ) → x ≡ got u r → Front b r) → ok n ≡ endOf b x → Took b x tt n
+end-answer b (got u r) n f p =
+    let g = f u r refl in
+    let s = g .some in
+    let e : n ≡ length b - length r = cc in
+    record { reads = rw (e, g .rest); some = omega arith; within = omega arith }
+end-answer b (bad m d) n f p = let z : _≡_ {A = ℕ} 0 1 = cc in absurd (omega arith)
+
+end-refusal : (b : List ℕ) (x : Read Unit) (n d : ℕ) → refused n d ≡ endOf b x → x ≡ bad n d
+end-refusal b (got u r) n d p = let z : _≡_ {A = ℕ} 0 1 = cc in absurd (omega arith)
+end-refusal b (bad m e) n d p = cc
+
+module _ (b : List ℕ) {x : Read Unit} where
+  pub end-took : {n : ℕ} → ((u : Unit) (r : List ℕ) → x ≡ got u r → Front b r) → ok n ≡ endOf b x → Took b x tt n
+  end-took {n} f p = end-answer b x n f p
+
+  pub end-refuses : {n d : ℕ} → refused n d ≡ endOf b x → x ≡ bad n d
+  end-refuses {n} {d} p = end-refusal b x n d p

@@ -1,7 +1,7 @@
--- What reading a reference finds, by what the code tests.
-use mathlib.Core.Path.{_≡_, refl}
+-- What reading and judging a reference finds, by what the code tests.
+use mathlib.Core.Path.{_≡_, refl, sym, ap, _∙_}
 use mathlib.Core.List.{List, [], _∷_}
-use Prim.Native.Nat.{ℕ, _-_, _%_, _^_, _≤_, _<_}
+use Prim.Native.Nat.{ℕ, _-_, _^_, _≤_, _<_}
 use native.Mathlib.Omega.{arith}
 use lib.Dec.{eqb}
 use lib.ListN.{length, getD, take, drop, length-drop}
@@ -13,40 +13,66 @@ use Rattle.format.specs.Read.{Read, got, bad, thenRead, number, getBig, refRead
 use Rattle.format.proofs.Tests.{eqb-test, failed}
 use Rattle.scalar.specs.Answers.{getFactIdCall}
 use Rattle.scalar.proofs.Cases.{by-test}
+use Rattle.scalar.proofs.Parts.{part-rest}
 use Rattle.scalar.proofs.Reading.{Front, Took, drop-past, front-drop, no-got, then-got, taken-got, taken-bad, took, refuses, marked-none, marked-other, marked-this, marked-front}
 use Rattle.scalar.proofs.Integers.{big-short, big-read, big-front}
 
--- a reference whose sequence is not 0
+-- ---- under a declared predicate: the sequence, then the predicate
+
+module _ (p r : ℕ) {s : ℕ} (e : s ≡ sequenceOf r) where
+  pub judged-reserved : s ≡ 0 → refused 9 0 ≡ fitsRef p r
+  unfolding fitsRef
+  judged-reserved z = rw (eq-eqb (sequenceOf r) 0 (sym e ∙ z))
+
+  module _ (z : s ≡ 0 → ⊥) {f q : ℕ} (g : f ≡ predicateOf r) (d : q ≡ p) where
+    pub judged-other : (f ≡ q → ⊥) → refused 8 f ≡ fitsRef p r
+    unfolding fitsRef
+    judged-other h = rw (ne-eqb (sequenceOf r) 0 (λ y. z (e ∙ y)), ne-eqb (predicateOf r) p (λ y. h (g ∙ y ∙ sym d)), g)
+
+    pub judged-fits : f ≡ q → ok tt ≡ fitsRef p r
+    unfolding fitsRef
+    judged-fits h = rw (ne-eqb (sequenceOf r) 0 (λ y. z (e ∙ y)), eq-eqb (predicateOf r) p (sym g ∙ h ∙ d))
+
+-- ---- where no type is at hand: the sequence alone
+
 abbrev unreserved : ℕ → List ℕ → Read ℕ
 unreserved r rest = if (eqb (sequenceOf r) 0) (bad 9 0) (got r rest)
 
 module _ (b : List ℕ) where
-  pub ref-none : length b ≡ 0 → getFactId b ≡ bad 1 0
-  unfolding getFactId
-  ref-none h = marked-none 0x51 (λ s. thenRead (getBig 8 s) unreserved) b h
+  pub id-none : length b ≡ 0 → refused 1 0 ≡ getFactIdCall b
+  unfolding getFactIdCall getFactId
+  id-none h = taken-bad b (marked-none 0x51 (λ s. thenRead (getBig 8 s) unreserved) b h)
 
-  module _ (h : 0 < length b) where
-    pub ref-other : (getD b 0 0 ≡ 0x51 → ⊥) → getFactId b ≡ bad 2 (getD b 0 0)
-    unfolding getFactId
-    ref-other m = marked-other 0x51 (λ s. thenRead (getBig 8 s) unreserved) b h m
+  module _ (l : length b ≡ 0 → ⊥) where
+    pub id-other : (getD b 0 0 ≡ 0x51 → ⊥) → {v : ℕ} → v ≡ getD b 0 0 → refused 2 v ≡ getFactIdCall b
+    unfolding getFactIdCall getFactId
+    id-other m w = taken-bad b (marked-other 0x51 (λ s. thenRead (getBig 8 s) unreserved) b (omega arith) m ∙ rw w)
 
     module _ (m : getD b 0 0 ≡ 0x51) where
       this : getFactId b ≡ thenRead (getBig 8 (drop 1 b)) unreserved
       unfolding getFactId
-      this = marked-this 0x51 (λ s. thenRead (getBig 8 s) unreserved) b h m
+      this = marked-this 0x51 (λ s. thenRead (getBig 8 s) unreserved) b (omega arith) m
 
-      pub ref-short : length b - 1 < 8 → getFactId b ≡ bad 1 0
-      ref-short k = rw (this, big-short 8 (drop 1 b) (simp length-drop k))
+      pub id-short : length b < 9 → refused 1 0 ≡ getFactIdCall b
+      unfolding getFactIdCall
+      id-short k = taken-bad b (this ∙ rw (big-short 8 (drop 1 b) (simp length-drop (omega arith))))
 
-      module _ (k : 8 ≤ length b - 1) {r : ℕ} (e : r ≡ number 0 (take 8 (drop 1 b))) where
-        pub ref-reserved : r % 2 ^ 32 ≡ 0 → getFactId b ≡ bad 9 0
-        ref-reserved z = rw (this, big-read 8 (drop 1 b) (simp length-drop k), ← e, eq-eqb _ _ z)
+      module _ (k : 9 ≤ length b) {r : ℕ} (e : (r ≡ number 0 (take 8 (take (length b - 1) (drop 1 b)))) × (r < 256 ^ 8)) {s : ℕ} (q : s ≡ sequenceOf r) where
+        read : getFactId b ≡ unreserved r (drop 8 (drop 1 b))
+        read =
+            let n : r ≡ number 0 (take 8 (drop 1 b)) = (rw (part-rest 1 b) at (e .0)) in
+            rw (this, big-read 8 (drop 1 b) (simp length-drop (omega arith)), ← n)
 
-        pub ref-read : (r % 2 ^ 32 ≡ 0 → ⊥) → getFactId b ≡ got r (drop 9 b)
-        ref-read z = rw (this, big-read 8 (drop 1 b) (simp length-drop k), ← e, ne-eqb _ _ z, drop-past 8 b)
+        pub id-reserved : s ≡ 0 → refused 9 0 ≡ getFactIdCall b
+        unfolding getFactIdCall
+        id-reserved z = taken-bad b (read ∙ rw (eq-eqb (sequenceOf r) 0 (sym q ∙ z)))
+
+        pub id-read : (s ≡ 0 → ⊥) → ok (record { value = r; used = 9 }) ≡ getFactIdCall b
+        unfolding getFactIdCall
+        id-read z = taken-got b 9 (read ∙ rw (ne-eqb (sequenceOf r) 0 (λ y. z (q ∙ y)), drop-past 8 b)) k
 
   -- the bytes behind a reference
-  pub ref-front : (v : ℕ) (r : List ℕ) → getFactId b ≡ got v r → Front b r
+  ref-front : (v : ℕ) (r : List ℕ) → getFactId b ≡ got v r → Front b r
   unfolding getFactId
   ref-front v r p = marked-front 0x51 (λ s. thenRead (getBig 8 s) unreserved) b inner v r p
     where
@@ -59,16 +85,6 @@ module _ (b : List ℕ) where
           let e : t .1 ≡ r = cc in
           rw (← e, n .1) (front-drop s 8 (omega arith) (n .0))
 
-  -- ---- the call
-
-  pub id-got : {v : ℕ} (n : ℕ) → getFactId b ≡ got v (drop n b) → n ≤ length b → ok (record { value = v; used = n }) ≡ getFactIdCall b
-  unfolding getFactIdCall
-  id-got n p h = taken-got b n p h
-
-  pub id-bad : {n d : ℕ} → getFactId b ≡ bad n d → refused n d ≡ getFactIdCall b
-  unfolding getFactIdCall
-  id-bad p = taken-bad b p
-
   pub id-took : {v n : ℕ} → ok (record { value = v; used = n }) ≡ getFactIdCall b → Took b (getFactId b) v n
   unfolding getFactIdCall
   id-took p = took b ref-front p
@@ -77,24 +93,23 @@ module _ (b : List ℕ) where
   unfolding getFactIdCall
   id-refuses p = refuses b p
 
--- ---- under a declared predicate
+-- ---- both: a reference under its declared predicate is one that is read without it, and then judged
 
--- the predicate is the declared one
-abbrev pub declared : ℕ → ℕ → List ℕ → Read ℕ
-declared p r rest = if (eqb (predicateOf r) p) (got r rest) (bad 8 (predicateOf r))
+module _ (p : ℕ) where
+  abbrev judged : ℕ → List ℕ → Read ℕ
+  judged r rest = refRead r rest (fitsRef p r)
 
-both : (p r : ℕ) (rest : List ℕ) → refRead r rest (fitsRef p r) ≡ thenRead (unreserved r rest) (declared p)
-unfolding fitsRef
-both p r rest =
-    by-test (eqb (sequenceOf r) 0) (λ t. rw t)
-    (λ t. by-test (eqb (predicateOf r) p) (λ u. rw (t, u)) (λ u. rw (t, u)))
+  kept : (r : ℕ) (rest : List ℕ) → judged r rest ≡ thenRead (unreserved r rest) judged
+  unfolding fitsRef
+  kept r rest =
+      by-test (eqb (sequenceOf r) 0) (λ t. rw t)
+      (λ t. let e : got r rest ≡ unreserved r rest = rw t in ap (λ (y : Read ℕ). thenRead y judged) e)
 
-each : (p : ℕ) (x : Read ℕ) → thenRead x (λ r rest. refRead r rest (fitsRef p r)) ≡ thenRead (thenRead x unreserved) (declared p)
-each p (got r rest) = both p r rest
-each p (bad n d) = refl
+  each : (x : Read ℕ) → thenRead x judged ≡ thenRead (thenRead x unreserved) judged
+  each (got r rest) = kept r rest
+  each (bad n d) = refl
 
--- a reference under its declared predicate is one whose sequence is checked, and then its predicate
-pub ref-declared : (p : ℕ) (b : List ℕ) → getRef p b ≡ thenRead (getFactId b) (declared p)
-unfolding getRef getFactId
-ref-declared p [] = refl
-ref-declared p (m ∷ s) = by-test (eqb m 0x51) (λ t. rw t (each p (getBig 8 s))) (λ t. rw t)
+  pub ref-judged : (b : List ℕ) → getRef p b ≡ thenRead (getFactId b) (λ r rest. refRead r rest (fitsRef p r))
+  unfolding getRef getFactId
+  ref-judged [] = refl
+  ref-judged (m ∷ s) = by-test (eqb m 0x51) (λ t. rw t (each (getBig 8 s))) (λ t. rw t)

@@ -12,7 +12,9 @@ use Rattle.format.specs.Scalar.{be, width, magnitude, uintBytes, negBytes, intB
 use Rattle.format.specs.Fields.{put}
 use Rattle.format.proofs.ScalarLaws.{wide}
 use Rattle.scalar.proofs.Cases.{by-test}
-use Rattle.blocks.proofs.Put.{put-snoc}
+use Rattle.blocks.proofs.Put.{put-snoc, length-put}
+use Rattle.scalar.specs.Answers.{TagIn}
+use Rattle.scalar.proofs.Parts.{take-put}
 
 pub length-be : (k n : ℕ) → length (be k n) ≡ k
 unfolding be
@@ -88,3 +90,13 @@ ref-over r = let n : 0 + length (refBytes r) ≡ 9 = omega (arith, ref-long r) i
 pub tag-long : (d : ℕ) → d < 2 ^ 32 → length (tagBytes d) ≤ 6
 unfolding tagBytes
 tag-long d h = omega (arith, length-uint d, width-lt 4 d (omega arith) (omega arith))
+
+-- a union's mark in front of six bytes, and the discriminant put behind it
+pub tag-in : (d n : ℕ) → n ≡ d → d < 2 ^ 32 → {len : ℕ} {bytes : List ℕ}
+    → (len ≡ 1 + length (uintBytes n)) × (bytes ≡ put (0x52 ∷ 0 ∷ 0 ∷ 0 ∷ 0 ∷ 0 ∷ []) 1 (uintBytes n)) → TagIn d bytes len
+unfolding tagBytes
+tag-in d n e h w =
+    let six : List ℕ = 0x52 ∷ 0 ∷ 0 ∷ 0 ∷ 0 ∷ 0 ∷ [] in
+    let l = tag-long d h in
+    let k = length-put six 1 (uintBytes d) (omega arith) in
+    rw (w .0, w .1, e) (record { front = take-put six 1 (uintBytes d) (omega arith); long = omega arith; within = omega arith })

@@ -2,14 +2,15 @@
 ghost use mathlib.Core.Path.{_≡_};
 ghost use mathlib.Core.List.{_∷_};
 ghost use Prim.Native.Nat.{_+_, _-_, _*_, _^_, _≤_, _<_};
-ghost use lib.ListN.{length, getD, take, drop};
+ghost use lib.ListN.{length, getD, take};
 ghost use Rattle.format.specs.Scalar.{be, width, magnitude, uintBytes, intBytes};
 ghost use Rattle.format.specs.Read.{number};
 ghost use Rattle.format.specs.Fields.{put, getI64Call, getU64Call};
 ghost use Rattle.scalar.specs.Answers.{gotInt};
+ghost use Rattle.scalar.specs.Numbers.{markWidth, unjudged};
 
 // From this word on a word means itself less 2^64.
-const NEGATIVE: u64 = 0x8000_0000_0000_0000;
+pub const NEGATIVE: u64 = 0x8000_0000_0000_0000;
 
 // How many bytes a magnitude has: 8 less its leading zero bits divided by 8.
 pub fn int_width(mag: u64) -> usize
@@ -110,6 +111,41 @@ pub fn read_number(s: &[u8], k: usize) -> u64
     n
 }
 
+// How many bytes follow a mark: an integer's as many as it is away from 48, a reference's 8; over 8 for a byte that is neither.
+fn mark_width(mark: u8) -> usize
+    ensures { λ r. ⌜ r ≡ markWidth mark ⌝ }
+{
+    if mark < format::MARK_INT_ZERO {
+        return (format::MARK_INT_ZERO - mark) as usize;
+    }
+    if mark == format::MARK_FACT_REF {
+        return 8;
+    }
+    (mark - format::MARK_INT_ZERO) as usize
+}
+
+// How many bytes the integer or the reference takes that the rest of a key begins with, by its mark alone: neither width nor range is judged. 0 for anything else,
+// and where it is cut short.
+pub fn unjudged_len(rest: &[u8]) -> usize
+    ensures { λ r. ⌜ r ≡ unjudged (now (rest .entry)) ⌝ }
+{
+    if rest.len() == 0 {
+        return 0;
+    }
+    let mark = rest[0];
+    if mark < format::MARK_INT_NEG_MIN {
+        return 0;
+    }
+    if format::MARK_FACT_REF < mark {
+        return 0;
+    }
+    let width = mark_width(mark);
+    if rest.len() <= width {
+        return 0;
+    }
+    width + 1
+}
+
 // Reads an unsigned integer.
 pub fn get_u64(bytes: &[u8]) -> GotInt
     ensures { λ r. ⌜ gotInt r ≡ getU64Call (now (bytes .entry)) ⌝ }
@@ -119,10 +155,10 @@ pub fn get_u64(bytes: &[u8]) -> GotInt
     }
     let mark = bytes[0];
     if mark < format::MARK_INT_ZERO {
-        return GotInt::Refused(format::UNEXPECTED_MARK, mark as u64);
+        return GotInt::Refused(format::UNEXPECTED_MARK, format::wide(mark));
     }
     if format::MARK_INT_POS_MAX < mark {
-        return GotInt::Refused(format::UNEXPECTED_MARK, mark as u64);
+        return GotInt::Refused(format::UNEXPECTED_MARK, format::wide(mark));
     }
     let width = (mark - format::MARK_INT_ZERO) as usize;
     if bytes.len() - 1 < width {
@@ -172,7 +208,7 @@ pub fn get_i64(bytes: &[u8]) -> GotInt
     let mark = bytes[0];
     if mark < format::MARK_INT_ZERO {
         if mark < format::MARK_INT_NEG_MIN {
-            return GotInt::Refused(format::UNEXPECTED_MARK, mark as u64);
+            return GotInt::Refused(format::UNEXPECTED_MARK, format::wide(mark));
         }
         return get_negative(bytes);
     }

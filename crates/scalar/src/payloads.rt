@@ -1,12 +1,11 @@
 // Payloads read from the front of a key: a part of the key where no escape occurs, otherwise of the scratch buffer, filled just before.
 use crate::runs;
-use crate::runs::Measure;
+use crate::runs::MarkedRun;
 ghost use mathlib.Core.Path.{_≡_};
-ghost use Prim.Native.Nat.{_+_, _<_};
-ghost use lib.ListN.{length, take, drop};
+ghost use Prim.Native.Nat.{_+_};
 ghost use Rattle.format.specs.Fields.{placed, partOf, getStrCall, getBytesCall};
-ghost use Rattle.scalar.specs.Answers.{gotPart};
-ghost use Rattle.scalar.specs.Runs.{measured, unescape};
+ghost use Rattle.scalar.specs.Answers.{Gives, gotPart};
+ghost use Rattle.scalar.specs.Runs.{payloadTo, RunIn};
 
 // Where a payload is, its length and how many bytes its field took; or a refusal and its detail.
 pub enum GotPart {
@@ -15,61 +14,45 @@ pub enum GotPart {
     Refused(u32, u64),
 }
 
-// Hands out the payload behind a mark, whose run has been measured. Scratch is filled only where an escape occurs and there is room.
+// Hands out the payload of n bytes behind a mark, whose run ends at a place. Scratch is filled only where an escape occurs and there is room.
 fn place_payload(key: &[u8], scratch: &mut [u8], end: usize, n: usize) -> GotPart
-    requires { ⌜ (0 < length (now key)) × (measured (drop 1 (now key)) ≡ Measure.Run end n) ⌝ }
-    ensures { λ r. ⌜ (gotPart r ≡ (placed 0 (end + 2) (unescape (take end (drop 1 (now (key .entry))))) (now (scratch .entry))) .answer) × (now (scratch .exit) ≡ (placed 0 (end + 2) (unescape (take end (drop 1 (now (key .entry))))) (now (scratch .entry))) .scratch) ⌝ }
+    requires { ⌜ RunIn (now key) end n ⌝ }
+    ensures { λ r. ⌜ Gives (placed 0 (end + 1) (payloadTo end (now (key .entry))) (now (scratch .entry))) r (now (scratch .exit)) ⌝ }
 {
-    let used = end + 2;
-    if n == end {
+    let used = end + 1;
+    if n + 1 == end {
         return GotPart::InKey(1, n, used);
     }
     if scratch.len() < n {
         return GotPart::Refused(format::NO_ROOM, n as u64);
     }
-    let stop = end + 1;
-    runs::unescape_into(&key[1..stop], scratch, 0);
+    runs::unescape_into(&key[1..end], scratch, 0);
     GotPart::InScratch(n, used)
 }
 
 // Reads text. UTF-8 is judged on the payload, before any room is asked for.
 pub fn get_str(bytes: &[u8], scratch: &mut [u8]) -> GotPart
-    ensures { λ r. ⌜ (gotPart r ≡ (getStrCall (now (bytes .entry)) (now (scratch .entry))) .answer) × (now (scratch .exit) ≡ (getStrCall (now (bytes .entry)) (now (scratch .entry))) .scratch) ⌝ }
+    ensures { λ r. ⌜ Gives (getStrCall (now (bytes .entry)) (now (scratch .entry))) r (now (scratch .exit)) ⌝ }
 {
-    if bytes.len() == 0 {
-        return GotPart::Refused(format::UNEXPECTED_EOF, 0);
-    }
-    let mark = bytes[0];
-    if mark != format::MARK_STRING {
-        return GotPart::Refused(format::UNEXPECTED_MARK, mark as u64);
-    }
-    match runs::measure_run(&bytes[1..]) {
-        Measure::Run(end, n) => {
-            let stop = end + 1;
-            if runs::payload_is_text(&bytes[1..stop], n) {
+    match runs::marked_run(bytes, format::MARK_STRING) {
+        MarkedRun::Ends(end, n) => {
+            if runs::payload_is_text(&bytes[1..end], n) {
                 place_payload(bytes, scratch, end, n)
             } else {
                 GotPart::Refused(format::BAD_STRING, 0)
             }
         }
-        Measure::Unended => GotPart::Refused(format::UNEXPECTED_EOF, 0),
+        MarkedRun::Refused(no, detail) => GotPart::Refused(no, detail),
     }
 }
 
 // Reads bytes.
 pub fn get_bytes(bytes: &[u8], scratch: &mut [u8]) -> GotPart
-    ensures { λ r. ⌜ (gotPart r ≡ (getBytesCall (now (bytes .entry)) (now (scratch .entry))) .answer) × (now (scratch .exit) ≡ (getBytesCall (now (bytes .entry)) (now (scratch .entry))) .scratch) ⌝ }
+    ensures { λ r. ⌜ Gives (getBytesCall (now (bytes .entry)) (now (scratch .entry))) r (now (scratch .exit)) ⌝ }
 {
-    if bytes.len() == 0 {
-        return GotPart::Refused(format::UNEXPECTED_EOF, 0);
-    }
-    let mark = bytes[0];
-    if mark != format::MARK_BYTES {
-        return GotPart::Refused(format::UNEXPECTED_MARK, mark as u64);
-    }
-    match runs::measure_run(&bytes[1..]) {
-        Measure::Run(end, n) => place_payload(bytes, scratch, end, n),
-        Measure::Unended => GotPart::Refused(format::UNEXPECTED_EOF, 0),
+    match runs::marked_run(bytes, format::MARK_BYTES) {
+        MarkedRun::Ends(end, n) => place_payload(bytes, scratch, end, n),
+        MarkedRun::Refused(no, detail) => GotPart::Refused(no, detail),
     }
 }
 

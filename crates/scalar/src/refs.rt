@@ -1,12 +1,47 @@
-// References to facts: 51 and eight bytes, high first.
+// References to facts: 51 and eight bytes, high first. A predicate and a sequence share its 64 bits.
 use crate::ints;
 use crate::ints::GotInt;
 ghost use mathlib.Core.Path.{_≡_};
 ghost use Prim.Native.Nat.{_+_, _≤_};
 ghost use lib.ListN.{length};
-ghost use Rattle.format.specs.Scalar.{refBytes};
+ghost use Rattle.format.specs.Scalar.{refBytes, sequenceOf, predicateOf};
+ghost use Rattle.format.specs.Encode.{fitsRef};
 ghost use Rattle.format.specs.Fields.{put};
-ghost use Rattle.scalar.specs.Answers.{gotInt, getFactIdCall};
+ghost use Rattle.scalar.specs.Answers.{gotInt, getFactIdCall, judgedOf};
+
+// A reference's sequence.
+pub fn sequence_of(raw: u64) -> u64
+    ensures { λ r. ⌜ r ≡ sequenceOf raw ⌝ }
+{
+    raw % format::SEQUENCES
+}
+
+// A reference's predicate.
+pub fn predicate_of(raw: u64) -> u64
+    ensures { λ r. ⌜ r ≡ predicateOf raw ⌝ }
+{
+    raw / format::SEQUENCES
+}
+
+// A reference fits its declared predicate; or a refusal and its detail.
+pub enum Judged {
+    Fits,
+    Refused(u32, u64),
+}
+
+// Judges a reference under a declared predicate: its sequence, then its predicate.
+pub fn judge(predicate: u32, raw: u64) -> Judged
+    ensures { λ r. ⌜ judgedOf r ≡ fitsRef predicate raw ⌝ }
+{
+    if sequence_of(raw) == 0 {
+        return Judged::Refused(format::RESERVED_FACT_ID, 0);
+    }
+    let found = predicate_of(raw);
+    if found != format::wide_word(predicate) {
+        return Judged::Refused(format::FACT_REF_PREDICATE, found);
+    }
+    Judged::Fits
+}
 
 // Writes a reference from a place on, and returns the place behind it.
 pub fn write_ref(buf: &mut [u8], at: usize, raw: u64) -> usize
@@ -34,13 +69,14 @@ pub fn get_fact_id(bytes: &[u8]) -> GotInt
     }
     let mark = bytes[0];
     if mark != format::MARK_FACT_REF {
-        return GotInt::Refused(format::UNEXPECTED_MARK, mark as u64);
+        return GotInt::Refused(format::UNEXPECTED_MARK, format::wide(mark));
     }
-    if bytes.len() - 1 < 8 {
+    if bytes.len() < format::FACT_REF_FIELD_LEN {
         return GotInt::Refused(format::UNEXPECTED_EOF, 0);
     }
     let raw = ints::read_number(&bytes[1..], 8);
-    if raw % 0x1_0000_0000 == 0 {
+    let sequence = sequence_of(raw);
+    if sequence == 0 {
         return GotInt::Refused(format::RESERVED_FACT_ID, 0);
     }
     GotInt::Value(raw, format::FACT_REF_FIELD_LEN)

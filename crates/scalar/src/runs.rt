@@ -5,8 +5,9 @@ ghost use lib.ListN.{length, drop};
 ghost use lib.Seq.{slice};
 ghost use Rattle.format.specs.Scalar.{escaped};
 ghost use Rattle.format.specs.Utf8.{utf8};
+ghost use Rattle.format.specs.Read.{marked, getRun};
 ghost use Rattle.format.specs.Fields.{put};
-ghost use Rattle.scalar.specs.Runs.{measured, unescape};
+ghost use Rattle.scalar.specs.Runs.{measured, runEnd, markedBy, unescape};
 
 // How many bytes the run of a payload has: its own, one more for each zero, and the end.
 pub fn escaped_len(payload: &[u8]) -> usize
@@ -71,28 +72,62 @@ pub enum Measure {
     Unended,
 }
 
-// Measures the run that the bytes begin with. A 00 not followed by FF ends it, also as the last byte.
-pub fn measure_run(bytes: &[u8]) -> Measure
-    ensures { λ r. ⌜ r ≡ measured (now (bytes .entry)) ⌝ }
+// The place of the terminator of the run whose bytes from a place on are searched, or the length where there is none. A 00 not followed by FF ends it, also as the
+// last byte. Callers search from the run's start or from a zero in it, never from between a 00 and its FF.
+pub fn run_end(bytes: &[u8], from: usize) -> usize
+    requires { ⌜ from ≤ length (now bytes) ⌝ }
+    ensures { λ r. ⌜ r ≡ runEnd (now (bytes .entry)) from ⌝ }
 {
-    let mut i: usize = 0;
-    let mut n: usize = 0;
+    let mut i: usize = from;
     let end = loop {
         let z = blocks::zero_from(bytes, i);
-        if bytes.len() <= z {
-            return Measure::Unended;
-        }
-        n += z - i;
         if bytes.len() - z < 2 {
             break z;
         }
         if bytes[z + 1] != format::MARK_ESCAPE {
             break z;
         }
-        n += 1;
         i = z + 2;
     };
-    Measure::Run(end, n)
+    end
+}
+
+// Measures the run that the bytes begin with. Each zero of its payload has one 00 in the run, and the FF behind it is no payload.
+pub fn measure_run(bytes: &[u8]) -> Measure
+    ensures { λ r. ⌜ r ≡ measured (now (bytes .entry)) ⌝ }
+{
+    let first = blocks::zero_from(bytes, 0);
+    let end = run_end(bytes, first);
+    if bytes.len() <= end {
+        return Measure::Unended;
+    }
+    if end == first {
+        return Measure::Run(end, end);
+    }
+    Measure::Run(end, end - blocks::count_zeros(&bytes[first..end]))
+}
+
+// Where the terminator of a run behind a mark is and how many bytes its payload has; or a refusal and its detail.
+pub enum MarkedRun {
+    Ends(usize, usize),
+    Refused(u32, u64),
+}
+
+// Measures the run behind a mark that the bytes begin with. Its place counts from the mark on.
+pub fn marked_run(bytes: &[u8], mark: u8) -> MarkedRun
+    ensures { λ r. ⌜ r ≡ markedBy (now (bytes .entry)) (marked mark getRun (now (bytes .entry))) ⌝ }
+{
+    if bytes.len() == 0 {
+        return MarkedRun::Refused(format::UNEXPECTED_EOF, 0);
+    }
+    let found = bytes[0];
+    if found != mark {
+        return MarkedRun::Refused(format::UNEXPECTED_MARK, format::wide(found));
+    }
+    match measure_run(&bytes[1..]) {
+        Measure::Run(end, n) => MarkedRun::Ends(end + 1, n),
+        Measure::Unended => MarkedRun::Refused(format::UNEXPECTED_EOF, 0),
+    }
 }
 
 // Writes the payload of a run's bytes, those before its terminator, from a place on, and returns the place behind it.

@@ -1,4 +1,4 @@
--- `complement` meets its contract.
+-- The ones of so many bytes are those of a word, shifted; a number of so many bytes is at most them.
 use native.Mathlib.Omega.{arith}
 use Rattle.scalar.proofs.Numbers.{ones-shift}
 use borrow.Author.Needs.{needs}

@@ -1,11 +1,5 @@
--- `get_negative` meets its contract.
-use mathlib.Core.Path.{_≡_, sym, ap, _∙_}
-use Prim.Native.Nat.{ℕ, _-_, _^_}
-use native.Mathlib.Omega.{arith}
-use lib.ListN.{getD}
-use Rattle.scalar.proofs.Parts.{part-rest}
-use Rattle.scalar.proofs.Widths.{width-some}
-use Rattle.scalar.proofs.Integers.{int-short, int-bad, int-under, int-negative, i64-got, i64-bad}
+-- The number read is the complement of the magnitude; then a law for each way out, in the order of `getNeg`.
+use Rattle.scalar.proofs.Integers as laws
 use borrow.Author.Needs.{needs}
 use Rattle.scalar.proofs.ints.get_negative.Statement.{statement}
 use Rattle.scalar.proofs.ints.get_negative.Tie as tie
@@ -23,10 +17,7 @@ sub-if1 : tie.Need-sub-if1
 sub-if1 c = search needs
 
 returns : tie.Need-returns
-returns c =
-    let b = c .before .before .before .args .bytes .now in
-    let p = c .before .before .before .pre in
-    i64-bad b (int-short b (p .0) (p .1) (p .2) (c .if1 .taken))
+returns c = search laws.i64-short
 
 sub-read-number : tie.Need-sub-read-number
 sub-read-number c = search needs
@@ -47,20 +38,10 @@ int-width-requires : tie.Need-int-width-requires
 int-width-requires c κs = search needs
 
 returns-2 : tie.Need-returns-2
-returns-2 c =
-    let b = c .before .before .before .before .before .before .before .before .args .bytes .now in
-    let p = c .before .before .before .before .before .before .before .before .pre in
-    let number = rw (part-rest 1 b) at (c .before .before .before .read-number .ensures .0) in
-    let mag = c .before .before .complement .ensures ∙ ap (λ (x : ℕ). 256 ^ (0x48 - getD b 0 0) - 1 - x) number in
-    i64-bad b (int-bad b (p .0) (p .1) (p .2) (c .before .before .before .before .before .if1 .left) mag (λ e. c .if2 .taken (c .before .int-width .ensures ∙ e)))
+returns-2 c = search laws.i64-wide
 
 returns-3 : tie.Need-returns-3
-returns-3 c =
-    let b = c .before .before .before .before .before .before .before .before .before .args .bytes .now in
-    let p = c .before .before .before .before .before .before .before .before .before .pre in
-    let number = rw (part-rest 1 b) at (c .before .before .before .before .read-number .ensures .0) in
-    let mag = c .before .before .before .complement .ensures ∙ ap (λ (x : ℕ). 256 ^ (0x48 - getD b 0 0) - 1 - x) number in
-    i64-bad b (int-under b (p .0) (p .1) (p .2) (c .before .before .before .before .before .before .if1 .left) mag (sym (c .before .before .int-width .ensures) ∙ c .before .if2 .left) (c .if3 .taken))
+returns-3 c = search laws.i64-under
 
 wrapping-sub-u64-requires : tie.Need-wrapping-sub-u64-requires
 wrapping-sub-u64-requires c κs = search needs
@@ -69,15 +50,7 @@ add-t7 : tie.Need-add-t7
 add-t7 c = search needs
 
 returns-4 : tie.Need-returns-4
-returns-4 c =
-    let b = c .before .before .before .before .before .before .before .before .before .before .args .bytes .now in
-    let p = c .before .before .before .before .before .before .before .before .before .before .pre in
-    let number = rw (part-rest 1 b) at (c .before .before .before .before .before .read-number .ensures .0) in
-    let mag = c .before .before .before .before .complement .ensures ∙ ap (λ (x : ℕ). 256 ^ (0x48 - getD b 0 0) - 1 - x) number in
-    let m = c .before .before .before .before .complement .result in
-    let word : c .wrapping-sub-u64 .result ≡ 2 ^ 64 - m = omega (arith, width-some m (omega arith)) in
-    let width = sym (c .before .before .before .int-width .ensures) ∙ c .before .before .if2 .left in
-    i64-got b _ (int-negative b (p .0) (p .1) (p .2) (c .before .before .before .before .before .before .before .if1 .left) mag width (c .before .if3 .left) ∙ rw word) (omega arith)
+returns-4 c = search laws.i64-negative
 
 pub get-negative-spec : {M : Type 1} → statement M
 get-negative-spec =

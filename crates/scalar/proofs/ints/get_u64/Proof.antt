@@ -1,33 +1,26 @@
--- `get_u64` meets its contract.
-use mathlib.Core.Path.{sym, _∙_}
-use native.Mathlib.Omega.{arith}
-use Rattle.scalar.proofs.Parts.{part-rest}
-use Rattle.scalar.proofs.Integers.{uint-none, uint-low, uint-high, uint-short, uint-bad, uint-read, u64-got, u64-bad}
+-- A law for each way out: mark, bytes, width, in the order of `getUint`.
+use Rattle.scalar.proofs.Integers as laws
 use borrow.Author.Needs.{needs}
 use Rattle.scalar.proofs.ints.get_u64.Statement.{statement}
 use Rattle.scalar.proofs.ints.get_u64.Tie as tie
 
 returns : tie.Need-returns
-returns c = let b = c .before .before .args .bytes .now in u64-bad b (uint-none b (c .if1 .taken))
+returns c = search laws.u64-none
 
 shared-slice-read-mark : tie.Need-shared-slice-read-mark
 shared-slice-read-mark c = search needs
 
-cast-t9 : tie.Need-cast-t9
-cast-t9 c = search needs
+wide-requires : tie.Need-wide-requires
+wide-requires c κs = search needs
 
 returns-2 : tie.Need-returns-2
-returns-2 c =
-    let b = c .before .before .before .before .args .bytes .now in
-    u64-bad b (uint-low b (omega arith) (c .if2 .taken))
+returns-2 c = search laws.u64-low
 
-cast-t10 : tie.Need-cast-t10
-cast-t10 c = omega (arith, c .before .before .shared-slice-known2 .given 0)
+wide-requires-2 : tie.Need-wide-requires-2
+wide-requires-2 c κs = search needs
 
 returns-3 : tie.Need-returns-3
-returns-3 c =
-    let b = c .before .before .before .before .before .args .bytes .now in
-    u64-bad b (uint-high b (omega arith) (c .if3 .taken))
+returns-3 c = search laws.u64-high
 
 cast-width : tie.Need-cast-width
 cast-width c = search needs
@@ -36,9 +29,7 @@ sub-if4 : tie.Need-sub-if4
 sub-if4 c = search needs
 
 returns-4 : tie.Need-returns-4
-returns-4 c =
-    let b = c .before .before .before .before .before .before .args .bytes .now in
-    u64-bad b (uint-short b (omega arith) (c .before .before .if2 .left) (c .before .if3 .left) (c .if4 .taken))
+returns-4 c = search laws.u64-short
 
 sub-read-number : tie.Need-sub-read-number
 sub-read-number c = search needs
@@ -56,20 +47,13 @@ int-width-requires : tie.Need-int-width-requires
 int-width-requires c κs = search needs
 
 returns-5 : tie.Need-returns-5
-returns-5 c =
-    let b = c .before .before .before .before .before .before .before .before .before .before .args .bytes .now in
-    let number = rw (part-rest 1 b) at (c .before .before .read-number .ensures .0) in
-    u64-bad b (uint-bad b (omega arith) (c .before .before .before .before .before .before .if2 .left) (c .before .before .before .before .before .if3 .left) (c .before .before .before .before .if4 .left) number (λ e. c .if5 .taken (c .before .int-width .ensures ∙ e)))
+returns-5 c = search laws.u64-wide
 
 add-t5 : tie.Need-add-t5
 add-t5 c = search needs
 
 returns-6 : tie.Need-returns-6
-returns-6 c =
-    let b = c .before .before .before .before .before .before .before .before .before .before .args .bytes .now in
-    let number = rw (part-rest 1 b) at (c .before .before .read-number .ensures .0) in
-    let width = sym (c .before .int-width .ensures) ∙ c .if5 .left in
-    u64-got b _ (uint-read b (omega arith) (c .before .before .before .before .before .before .if2 .left) (c .before .before .before .before .before .if3 .left) (c .before .before .before .before .if4 .left) number width) (omega arith)
+returns-6 c = search laws.u64-read
 
 pub get-u64-spec : {M : Type 1} → statement M
 get-u64-spec =
@@ -77,9 +61,9 @@ get-u64-spec =
     (tie.spec
     returns
     shared-slice-read-mark
-    cast-t9
+    wide-requires
     returns-2
-    cast-t10
+    wide-requires-2
     returns-3
     cast-width
     sub-if4

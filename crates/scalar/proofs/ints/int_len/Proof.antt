@@ -1,4 +1,4 @@
--- `int_len` meets its contract.
+-- By the sign: a negative integer has as many bytes as its magnitude.
 use Rattle.scalar.proofs.Widths.{int-pos, length-int-neg}
 use borrow.Author.Needs.{needs}
 use Rattle.scalar.proofs.ints.int_len.Statement.{statement}

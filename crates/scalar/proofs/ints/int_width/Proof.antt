@@ -1,4 +1,4 @@
--- `int_width` meets its contract.
+-- The code is the definition; at most 64 zero bits keep the difference in range.
 use mathlib.Core.Path.{refl}
 use native.Mathlib.Omega.{arith}
 use lib.Count.{leading-le}

@@ -1,4 +1,4 @@
--- `read_number` meets its contract. The loop's invariant: n is the number of the bytes passed.
+-- The loop's invariant: n is the number of the i bytes passed, and below 256^i. What falls is the bytes left.
 use mathlib.Core.Path.{_≡_, refl, sym, ap, _∙_}
 use Prim.Native.Nat.{ℕ, _+_, _-_, _*_, _^_, _≤_, _<_}
 use native.Mathlib.Omega.{arith}

@@ -1,4 +1,4 @@
--- `uint_len` meets its contract.
+-- The mark and as many bytes as the width.
 use native.Mathlib.Omega.{arith}
 use Rattle.scalar.proofs.Widths.{width-le, length-uint}
 use borrow.Author.Needs.{needs}

@@ -1,4 +1,4 @@
--- `write_i64` meets its contract.
+-- By the sign: a negative word is written as its complemented magnitude under a mark that counts down.
 use mathlib.Core.Path.{ap}
 use native.Mathlib.Omega.{arith}
 use lib.ListN.{length}
@@ -41,9 +41,13 @@ same-length-2 c = search needs
 returns-2 : tie.Need-returns-2
 unfolding negBytes
 returns-2 c =
-    let m = c .before .before .before .before .before .magnitude-of in
-    let bytes = rw (c .before .before .before .before .int-width .ensures) at (c .before .before .write-marked .ensures .1) in
-    rw (int-neg (c .before .before .before .before .before .before .if1 .left), ← m .ensures) (omega (arith, length-neg (m .result)), bytes)
+    let at-write-marked = c .before .before in
+    let at-int-width = at-write-marked .before .before in
+    let at-magnitude-of = at-int-width .before in
+    let at-if1 = at-magnitude-of .before in
+    let m = at-magnitude-of .magnitude-of in
+    let bytes = rw (at-int-width .int-width .ensures) at (at-write-marked .write-marked .ensures .1) in
+    rw (int-neg (at-if1 .if1 .left), ← m .ensures) (omega (arith, length-neg (m .result)), bytes)
 
 pub write-i64-spec : {M : Type 1} → statement M
 write-i64-spec =

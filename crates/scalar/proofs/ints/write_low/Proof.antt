@@ -1,4 +1,4 @@
--- `write_low` meets its contract. The loop's invariant: the low bytes of what is left, put at their places, make the whole.
+-- The loop's invariant: the low bytes of what is left, put at their places, make the whole. What falls is the bytes left.
 use mathlib.Core.Path.{_≡_, refl, sym, _∙_}
 use Prim.Native.Nat.{_≤_}
 use native.Mathlib.Omega.{arith}

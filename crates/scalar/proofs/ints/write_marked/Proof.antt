@@ -1,4 +1,4 @@
--- `write_marked` meets its contract.
+-- A store of the mark and the bytes behind it are one put.
 use mathlib.Core.Path.{_∙_}
 use native.Mathlib.Omega.{arith}
 use lib.ListN.{length-set}

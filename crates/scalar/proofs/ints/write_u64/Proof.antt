@@ -1,4 +1,4 @@
--- `write_u64` meets its contract.
+-- The mark says the width, which is at most 8.
 use native.Mathlib.Omega.{arith}
 use Rattle.format.specs.Scalar.{uintBytes}
 use Rattle.scalar.proofs.Widths.{width-le, length-uint}
@@ -23,7 +23,11 @@ same-length c = search needs
 
 returns : tie.Need-returns
 unfolding uintBytes
-returns c = (omega (arith, length-uint (c .before .before .before .before .before .before .args .n)), rw (c .before .before .before .before .int-width .ensures) at (c .before .before .write-marked .ensures .1))
+returns c =
+    let at-write-marked = c .before .before in
+    let at-int-width = at-write-marked .before .before in
+    let entry = at-int-width .before .before in
+    (omega (arith, length-uint (entry .args .n)), rw (at-int-width .int-width .ensures) at (at-write-marked .write-marked .ensures .1))
 
 pub write-u64-spec : {M : Type 1} → statement M
 write-u64-spec =

@@ -1,91 +1,38 @@
--- `get_bytes` meets its contract.
-use mathlib.Core.Path.{sym, _∙_}
-use Prim.Native.Nat.{_+_, _-_}
-use native.Mathlib.Omega.{arith}
-use lib.ListN.{take, drop}
-use Rattle.scalar.specs.Runs.{unescape}
-use Rattle.scalar.proofs.Parts.{part-rest}
-use Rattle.scalar.proofs.Measures.{measured-run}
-use Rattle.scalar.proofs.Placing.{within-run, bytes-none, bytes-other, bytes-unended, bytes-run, bytes-refused, bytes-placed}
+-- What `marked_run` found is what `getBytes` reads, and its payload is placed.
+use Rattle.scalar.proofs.Placing as laws
 use borrow.Author.Needs.{needs}
 use Rattle.scalar.proofs.payloads.get_bytes.Statement.{statement}
 use Rattle.scalar.proofs.payloads.get_bytes.Tie as tie
 
-returns : tie.Need-returns
-returns c =
-    let b = c .before .before .before .args .bytes .now in
-    let d = c .before .before .before .args .scratch .now in
-    bytes-refused b d (bytes-none b (c .if1 .taken))
-
-shared-slice-read-mark : tie.Need-shared-slice-read-mark
-shared-slice-read-mark c = search needs
-
-cast-t10 : tie.Need-cast-t10
-cast-t10 c = omega (arith, c .before .shared-slice-known2 .given 0)
-
-returns-2 : tie.Need-returns-2
-returns-2 c =
-    let b = c .before .before .before .before .before .args .bytes .now in
-    let d = c .before .before .before .before .before .args .scratch .now in
-    bytes-refused b d (bytes-other b (omega arith) (c .if2 .taken))
-
-sub-measure-run : tie.Need-sub-measure-run
-sub-measure-run c = search needs
-
-part-measure-run-start : tie.Need-part-measure-run-start
-part-measure-run-start c = search needs
-
-part-measure-run-end : tie.Need-part-measure-run-end
-part-measure-run-end c = search needs
-
-measure-run-requires : tie.Need-measure-run-requires
-measure-run-requires c κs = search needs
+marked-run-requires : tie.Need-marked-run-requires
+marked-run-requires c κs = search needs
 
 enum-known-end : tie.Need-enum-known-end
 enum-known-end c = search needs
 
 place-payload-requires : tie.Need-place-payload-requires
-place-payload-requires c κs =
-    let b = c .before .before .before .before .before .before .before .before .before .before .before .args .bytes .now in
-    (omega arith, sym (rw (part-rest 1 b) at (c .before .before .before .before .measure-run .ensures)) ∙ c .before .before .end .given .1)
+place-payload-requires c κs = search laws.bytes-found
 
-enum-told : tie.Need-enum-told
-enum-told c = search needs
+enum-known-no : tie.Need-enum-known-no
+enum-known-no c = search needs
 
 same-length : tie.Need-same-length
 same-length c = search needs
 
-returns-3 : tie.Need-returns-3
-returns-3 c =
-    let b = c .before .before .before .before .before .before .before .before .before .before .before .before .before .before .args .bytes .now in
-    let d = c .before .before .before .before .before .before .before .before .before .before .before .before .before .before .args .scratch .now in
-    let e = c .before .before .before .before .before .end .given .0 .0 in
-    let r = sym (rw (part-rest 1 b) at (c .before .before .before .before .before .before .before .measure-run .ensures)) ∙ c .before .before .before .before .before .end .given .1 in
-    let m = measured-run (drop 1 b) e (c .before .before .before .before .before .end .given .0 .1 .0) r in
-    let read = bytes-run b (omega arith) (c .before .before .before .before .before .before .before .before .before .if2 .left) m in
-    rw (bytes-placed b d (unescape (take e (drop 1 b))) (e + 2) read (within-run b e (m .inside))) (c .before .before .place-payload .ensures)
+returns : tie.Need-returns
+returns c = search laws.bytes-placed
 
-returns-4 : tie.Need-returns-4
-returns-4 c =
-    let b = c .before .before .before .before .before .before .before .before .before .args .bytes .now in
-    let d = c .before .before .before .before .before .before .before .before .before .args .scratch .now in
-    bytes-refused b d (bytes-unended b (omega arith) (c .before .before .before .before .if2 .left) (sym (rw (part-rest 1 b) at (c .before .before .measure-run .ensures)) ∙ c .enum-told .given .1))
+returns-2 : tie.Need-returns-2
+returns-2 c = search laws.bytes-refused
 
 pub get-bytes-spec : {M : Type 1} → statement M
 get-bytes-spec =
     tie.close
     (tie.spec
-    returns
-    shared-slice-read-mark
-    cast-t10
-    returns-2
-    sub-measure-run
-    part-measure-run-start
-    part-measure-run-end
-    measure-run-requires
+    marked-run-requires
     enum-known-end
     place-payload-requires
-    enum-told
+    enum-known-no
     same-length
-    returns-3
-    returns-4)
+    returns
+    returns-2)

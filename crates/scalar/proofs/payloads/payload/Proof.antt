@@ -1,4 +1,4 @@
--- `payload` meets its contract.
+-- By where the payload is: within its slice it is that part, otherwise the empty one.
 use mathlib.Core.Path.{sym}
 use native.Mathlib.Omega.{arith}
 use lib.Seq.{length-take-le}
@@ -15,9 +15,11 @@ slice-aggregate-result c = search needs
 
 returns : tie.Need-returns
 returns c =
-    let k = c .before .before .before .before .before .args .key .now in
-    let s = c .before .before .before .before .before .args .scratch .now in
-    rw (c .before .before .before .got .given .1) (pick-no-key k s (c .before .before .before .got .given .0 .1 .1 .0) (c .before .before .before .got .given .0 .0) (c .before .before .before .got .given .0 .1 .0) (omega arith))
+    let at-got = c .before .before .before in
+    let entry = at-got .before .before in
+    let k = entry .args .key .now in
+    let s = entry .args .scratch .now in
+    rw (at-got .got .given .1) (pick-no-key k s (at-got .got .given .0 .1 .1 .0) (at-got .got .given .0 .0) (at-got .got .given .0 .1 .0) (omega arith))
 
 sub-if2 : tie.Need-sub-if2
 sub-if2 c = search needs
@@ -27,9 +29,11 @@ slice-aggregate-result-2 c = search needs
 
 returns-2 : tie.Need-returns-2
 returns-2 c =
-    let k = c .before .before .before .before .before .before .args .key .now in
-    let s = c .before .before .before .before .before .before .args .scratch .now in
-    rw (c .before .before .before .before .got .given .1) (pick-no-key k s (c .before .before .before .before .got .given .0 .1 .1 .0) (c .before .before .before .before .got .given .0 .0) (c .before .before .before .before .got .given .0 .1 .0) (omega arith))
+    let at-got = c .before .before .before .before in
+    let entry = at-got .before .before in
+    let k = entry .args .key .now in
+    let s = entry .args .scratch .now in
+    rw (at-got .got .given .1) (pick-no-key k s (at-got .got .given .0 .1 .1 .0) (at-got .got .given .0 .0) (at-got .got .given .0 .1 .0) (omega arith))
 
 add-end : tie.Need-add-end
 add-end c = search needs
@@ -51,12 +55,19 @@ slice-aggregate-result-3 c = search needs
 
 returns-3 : tie.Need-returns-3
 returns-3 c =
-    let k = c .before .before .before .before .before .args .key .now in
-    let s = c .before .before .before .before .before .args .scratch .now in
-    rw (c .before .before .before .got2 .given .1) (pick-no-scratch k s (c .before .before .before .got2 .given .0 .1 .0) (c .before .before .before .got2 .given .0 .0) (c .before .if3 .taken))
+    let at-if3 = c .before in
+    let at-got2 = at-if3 .before .before in
+    let entry = at-got2 .before .before in
+    let k = entry .args .key .now in
+    let s = entry .args .scratch .now in
+    rw (at-got2 .got2 .given .1) (pick-no-scratch k s (at-got2 .got2 .given .0 .1 .0) (at-got2 .got2 .given .0 .0) (at-if3 .if3 .taken))
 
 slice-aggregate-result-4 : tie.Need-slice-aggregate-result-4
-slice-aggregate-result-4 c = sym (length-take-le (c .before .before .before .got2 .given .0 .0) (c .before .before .before .before .before .args .scratch .now) (c .before .if3 .left))
+slice-aggregate-result-4 c =
+    let at-if3 = c .before in
+    let at-got2 = at-if3 .before .before in
+    let entry = at-got2 .before .before in
+    sym (length-take-le (at-got2 .got2 .given .0 .0) (entry .args .scratch .now) (at-if3 .if3 .left))
 
 enum-told : tie.Need-enum-told
 enum-told c = search needs
@@ -66,15 +77,20 @@ slice-aggregate-result-5 c = search needs
 
 returns-4 : tie.Need-returns-4
 returns-4 c =
-    let k = c .before .before .before .before .before .before .args .key .now in
-    let s = c .before .before .before .before .before .before .args .scratch .now in
-    rw (c .before .before .before .before .got .given .1) (pick-key k s (c .before .before .before .before .got .given .0 .1 .1 .0) (c .before .before .before .before .got .given .0 .0) (c .before .before .before .before .got .given .0 .1 .0) (omega arith))
+    let at-got = c .before .before .before .before in
+    let entry = at-got .before .before in
+    let k = entry .args .key .now in
+    let s = entry .args .scratch .now in
+    rw (at-got .got .given .1) (pick-key k s (at-got .got .given .0 .1 .1 .0) (at-got .got .given .0 .0) (at-got .got .given .0 .1 .0) (omega arith))
 
 returns-5 : tie.Need-returns-5
 returns-5 c =
-    let k = c .before .before .before .before .before .args .key .now in
-    let s = c .before .before .before .before .before .args .scratch .now in
-    rw (c .before .before .before .got2 .given .1) (pick-scratch k s (c .before .before .before .got2 .given .0 .1 .0) (c .before .before .before .got2 .given .0 .0) (c .before .if3 .left))
+    let at-if3 = c .before in
+    let at-got2 = at-if3 .before .before in
+    let entry = at-got2 .before .before in
+    let k = entry .args .key .now in
+    let s = entry .args .scratch .now in
+    rw (at-got2 .got2 .given .1) (pick-scratch k s (at-got2 .got2 .given .0 .1 .0) (at-got2 .got2 .given .0 .0) (at-if3 .if3 .left))
 
 returns-6 : tie.Need-returns-6
 returns-6 c = search needs

@@ -1,4 +1,4 @@
--- `put_bytes` meets its contract.
+-- Bytes are a run behind their mark.
 use Rattle.format.specs.Fields.{putBytesCall}
 use borrow.Author.Needs.{needs}
 use Rattle.scalar.proofs.puts.put_bytes.Statement.{statement}

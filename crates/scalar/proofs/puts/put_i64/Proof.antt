@@ -1,67 +1,52 @@
--- `put_i64` meets its contract.
-use mathlib.Core.Path.{_≡_}
-use Prim.Native.Nat.{_+_}
+-- By the sign: a negative word is written as its complemented magnitude under a mark that counts down.
 use native.Mathlib.Omega.{arith}
-use lib.ListN.{length}
-use Rattle.format.specs.Scalar.{intBytes}
-use Rattle.format.specs.Fields.{putI64Call}
-use Rattle.scalar.proofs.Rooms.{room-ok, put-some, put-refused}
+use Rattle.scalar.proofs.Rooms as laws
+use Rattle.scalar.proofs.Widths.{width-le}
 use borrow.Author.Needs.{needs}
 use Rattle.scalar.proofs.puts.put_i64.Statement.{statement}
 use Rattle.scalar.proofs.puts.put_i64.Tie as tie
 
-int-len-requires : tie.Need-int-len-requires
-int-len-requires c κs = search needs
-
-room-requires : tie.Need-room-requires
-room-requires c κs = search needs
-
-enum-told : tie.Need-enum-told
-enum-told c = search needs
-
-write-i64-requires : tie.Need-write-i64-requires
-write-i64-requires c κs =
-    let a = c .before .before .before .before .before .before .args in
-    let d = a .buf .now in
-    let s = intBytes (a .w) in
-    let n : 0 + c .before .before .before .before .int-len .result ≡ length s = omega arith in
-    let fits = room-ok (length d) (a .at) (length s) (rw (c .before .enum-told .given .1, n) at (c .before .before .before .room .ensures)) in
-    fits
-
-enum-known-no : tie.Need-enum-known-no
-enum-known-no c = search needs
+put-u64-requires : tie.Need-put-u64-requires
+put-u64-requires c κs = search needs
 
 same-length : tie.Need-same-length
 same-length c = search needs
 
 returns : tie.Need-returns
-unfolding putI64Call
-returns c =
-    let a = c .before .before .before .before .before .before .before .before .before .args in
-    let d = a .buf .now in
-    let s = intBytes (a .w) in
-    let n : 0 + c .before .before .before .before .before .before .before .int-len .result ≡ length s = omega arith in
-    let fits = room-ok (length d) (a .at) (length s) (rw (c .before .before .before .before .enum-told .given .1, n) at (c .before .before .before .before .before .before .room .ensures)) in
-    rw (c .before .before .write-i64 .ensures .0, c .before .before .write-i64 .ensures .1) (put-some d (a .at) s fits)
+returns c = search laws.put-pos
+
+magnitude-of-requires : tie.Need-magnitude-of-requires
+magnitude-of-requires c κs = search needs
+
+int-width-requires : tie.Need-int-width-requires
+int-width-requires c κs = search needs
+
+cast-put-marked : tie.Need-cast-put-marked
+cast-put-marked c = omega (arith, width-le (c .before .before .magnitude-of .result))
+
+sub-put-marked : tie.Need-sub-put-marked
+sub-put-marked c = omega (arith, width-le (c .before .before .magnitude-of .result))
+
+put-marked-requires : tie.Need-put-marked-requires
+put-marked-requires c κs = search needs
+
+same-length-2 : tie.Need-same-length-2
+same-length-2 c = search needs
 
 returns-2 : tie.Need-returns-2
-unfolding putI64Call
-returns-2 c =
-    let a = c .before .before .before .before .before .before .args in
-    let d = a .buf .now in
-    let s = intBytes (a .w) in
-    let n : 0 + c .before .before .before .before .int-len .result ≡ length s = omega arith in
-    put-refused d (a .at) s (rw (c .before .no .given .1, n) at (c .before .before .before .room .ensures))
+returns-2 c = search laws.put-neg
 
 pub put-i64-spec : {M : Type 1} → statement M
 put-i64-spec =
     tie.close
     (tie.spec
-    int-len-requires
-    room-requires
-    enum-told
-    write-i64-requires
-    enum-known-no
+    put-u64-requires
     same-length
     returns
+    magnitude-of-requires
+    int-width-requires
+    cast-put-marked
+    sub-put-marked
+    put-marked-requires
+    same-length-2
     returns-2)

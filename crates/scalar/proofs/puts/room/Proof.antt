@@ -1,4 +1,4 @@
--- `room` meets its contract.
+-- By where the place and the head end: past the buffer, within it without room for all, or with room.
 use mathlib.Core.Path.{_≡_}
 use Prim.Native.Nat.{_+_}
 use native.Mathlib.Omega.{arith}

@@ -1,4 +1,4 @@
--- `shown_sum` meets its contract.
+-- The sum fits where the second number is at most what the first leaves of 2^64 - 1.
 use mathlib.Core.Path.{sym}
 use Prim.Native.Nat.{_+_}
 use native.Mathlib.Omega.{arith}

@@ -1,4 +1,4 @@
--- `fact_ref_bytes` meets its contract.
+-- Nine bytes put over nine are all of them.
 use native.Mathlib.Omega.{arith}
 use Rattle.scalar.proofs.Widths.{ref-long, ref-over}
 use borrow.Author.Needs.{needs}

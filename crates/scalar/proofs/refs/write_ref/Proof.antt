@@ -1,4 +1,4 @@
--- `write_ref` meets its contract.
+-- A reference is its mark and eight bytes.
 use native.Mathlib.Omega.{arith}
 use Rattle.scalar.proofs.Widths.{ref-long}
 use borrow.Author.Needs.{needs}

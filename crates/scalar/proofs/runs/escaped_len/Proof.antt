@@ -1,4 +1,4 @@
--- `escaped_len` meets its contract.
+-- The payload, one byte more for each zero, and the end.
 use native.Mathlib.Omega.{arith}
 use Rattle.blocks.proofs.Counts.{zeros-le}
 use Rattle.scalar.proofs.Escapes.{escaped-long}

@@ -1,3 +1,4 @@
+-- A payload as long as its run is the run, copied as it stands.
 use mathlib.Core.Path.{sym, ap, _∙_}
 use native.Mathlib.Omega.{arith}
 use lib.Seq.{take-all}
@@ -17,7 +18,12 @@ same-length : tie.Need-same-length
 same-length c = search needs
 
 returns : tie.Need-returns
-returns c = let a = c .before .before .before .before .before .before .before .args in rw (unescape-same (a .run .now) (sym (c .before .before .before .before .before .before .before .pre .0) ∙ c .before .before .before .before .if1 .taken)) (c .before .before .copy-to .ensures ∙ ap (λ x. put (a .dst .now) (a .at) x) (take-all (a .n) (a .run .now) (omega (arith, c .before .before .before .before .if1 .taken))))
+returns c =
+    let at-copy-to = c .before .before in
+    let at-if1 = at-copy-to .before .before in
+    let entry = at-if1 .before .before .before in
+    let a = entry .args in
+    rw (unescape-same (a .run .now) (sym (entry .pre .0) ∙ at-if1 .if1 .taken)) (at-copy-to .copy-to .ensures ∙ ap (λ x. put (a .dst .now) (a .at) x) (take-all (a .n) (a .run .now) (omega (arith, at-if1 .if1 .taken))))
 
 same-length-2 : tie.Need-same-length-2
 same-length-2 c = search needs

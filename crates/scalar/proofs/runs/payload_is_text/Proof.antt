@@ -1,4 +1,4 @@
--- `payload_is_text` meets its contract.
+-- A payload as long as its run is the run.
 use mathlib.Core.Path.{sym, _∙_}
 use Rattle.scalar.proofs.Escapes.{unescape-same}
 use borrow.Author.Needs.{needs}

@@ -1,4 +1,4 @@
--- `run_is_text` meets its contract. The loop's invariant: all is text exactly where what is left is.
+-- The loop's invariant: all is text exactly where what is left is. What falls is the run left.
 use mathlib.Core.Path.{_≡_, refl, sym, _∙_}
 use Prim.Native.Nat.{_-_}
 use native.Mathlib.Omega.{arith}
@@ -39,21 +39,30 @@ valid-requires c κs = search needs
 
 returns : tie.Need-returns Inv-loop μ-loop
 returns c =
-    let l = c .before .before .before .before .before .loop in
-    let s = c .before .before .before .before .before .before .before .args .run .now in
-    let z = c .before .before .before .zero-from .result in
-    let f = c .before .before .before .zero-from .ensures in
-    let piece = sym (rw (part-slice (l .i) z s (f .after)) at (c .before .valid .ensures)) in
-    sym (l .inv ∙ judged-stops s (l .i) z f (piece ∙ not-true (c .before .valid .result) (c .if1 .taken)))
+    let at-valid = c .before in
+    let at-zero-from = at-valid .before .before in
+    let at-loop = at-zero-from .before .before in
+    let entry = at-loop .before .before in
+    let l = at-loop .loop in
+    let s = entry .args .run .now in
+    let z = at-zero-from .zero-from .result in
+    let f = at-zero-from .zero-from .ensures in
+    let piece = sym (rw (part-slice (l .i) z s (f .after)) at (at-valid .valid .ensures)) in
+    sym (l .inv ∙ judged-stops s (l .i) z f (piece ∙ not-true (at-valid .valid .result) (c .if1 .taken)))
 
 returns-2 : tie.Need-returns-2 Inv-loop μ-loop
 returns-2 c =
-    let l = c .before .before .before .before .before .before .loop in
-    let s = c .before .before .before .before .before .before .before .before .args .run .now in
-    let z = c .before .before .before .before .zero-from .result in
-    let f = c .before .before .before .before .zero-from .ensures in
-    let piece = sym (rw (part-slice (l .i) z s (f .after)) at (c .before .before .valid .ensures)) in
-    sym (l .inv ∙ judged-last s (l .i) z f (c .if2 .taken) ∙ piece ∙ not-false (c .before .before .valid .result) (c .before .if1 .left))
+    let at-if1 = c .before in
+    let at-valid = at-if1 .before in
+    let at-zero-from = at-valid .before .before in
+    let at-loop = at-zero-from .before .before in
+    let entry = at-loop .before .before in
+    let l = at-loop .loop in
+    let s = entry .args .run .now in
+    let z = at-zero-from .zero-from .result in
+    let f = at-zero-from .zero-from .ensures in
+    let piece = sym (rw (part-slice (l .i) z s (f .after)) at (at-valid .valid .ensures)) in
+    sym (l .inv ∙ judged-last s (l .i) z f (c .if2 .taken) ∙ piece ∙ not-false (at-valid .valid .result) (at-if1 .if1 .left))
 
 add-i : tie.Need-add-i Inv-loop μ-loop
 add-i c = let f = c .before .before .before .before .zero-from .ensures in omega arith
@@ -63,12 +72,17 @@ loop-less c = let f = c .before .before .before .before .zero-from .ensures in o
 
 loop-again : tie.Need-loop-again Inv-loop μ-loop
 loop-again c =
-    let l = c .before .before .before .before .before .before .loop in
-    let s = c .before .before .before .before .before .before .before .before .args .run .now in
-    let z = c .before .before .before .before .zero-from .result in
-    let f = c .before .before .before .before .zero-from .ensures in
-    let piece = sym (rw (part-slice (l .i) z s (f .after)) at (c .before .before .valid .ensures)) in
-    l .inv ∙ judged-on s (l .i) z f (c .if2 .left) (piece ∙ not-false (c .before .before .valid .result) (c .before .if1 .left))
+    let at-if1 = c .before in
+    let at-valid = at-if1 .before in
+    let at-zero-from = at-valid .before .before in
+    let at-loop = at-zero-from .before .before in
+    let entry = at-loop .before .before in
+    let l = at-loop .loop in
+    let s = entry .args .run .now in
+    let z = at-zero-from .zero-from .result in
+    let f = at-zero-from .zero-from .ensures in
+    let piece = sym (rw (part-slice (l .i) z s (f .after)) at (at-valid .valid .ensures)) in
+    l .inv ∙ judged-on s (l .i) z f (c .if2 .left) (piece ∙ not-false (at-valid .valid .result) (at-if1 .if1 .left))
 
 returns-3 : tie.Need-returns-3 Inv-loop μ-loop
 returns-3 c = sym (c .before .loop .inv ∙ judged-past (c .before .before .before .args .run .now) (c .before .loop .i) (c .loop-test .left))

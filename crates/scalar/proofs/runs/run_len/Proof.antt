@@ -1,4 +1,4 @@
--- `run_len` meets its contract.
+-- The part is the slice.
 use native.Mathlib.Omega.{arith}
 use Rattle.scalar.proofs.Parts.{part-slice}
 use borrow.Author.Needs.{needs}

@@ -1,4 +1,4 @@
--- `unescape_into` meets its contract. The loop's invariant: the payload of what is left of the run, put from o on, makes the whole.
+-- The loop's invariant: the payload of what is left of the run, put from o on, makes the whole. What falls is the run left.
 use Prim.Native.Nat.{_-_}
 use native.Mathlib.Omega.{arith}
 use lib.ListN.{length, drop}
@@ -22,10 +22,13 @@ zero-from-requires c κs = omega arith
 
 copy-to-requires : tie.Need-copy-to-requires Inv-loop μ-loop
 copy-to-requires c κs =
-    let l = c .before .before .before .loop in
-    let s = c .before .before .before .before .before .before .args .run .now in
-    let z = c .before .zero-from .result in
-    let f = c .before .zero-from .ensures in
+    let at-zero-from = c .before in
+    let at-loop = at-zero-from .before .before in
+    let entry = at-loop .before .before .before in
+    let l = at-loop .loop in
+    let s = entry .args .run .now in
+    let z = at-zero-from .zero-from .result in
+    let f = at-zero-from .zero-from .ensures in
     let ahead = unescape-ahead s (l .i) z f in
     (f .after, f .inside, omega arith)
 
@@ -34,49 +37,68 @@ sub-o c = c .before .before .before .before .zero-from .ensures .after
 
 add-o : tie.Need-add-o Inv-loop μ-loop
 add-o c =
-    let l = c .before .before .before .before .before .before .loop in
-    let s = c .before .before .before .before .before .before .before .before .before .args .run .now in
-    let z = c .before .before .before .before .zero-from .result in
-    let f = c .before .before .before .before .zero-from .ensures in
+    let at-zero-from = c .before .before .before .before in
+    let at-loop = at-zero-from .before .before in
+    let entry = at-loop .before .before .before in
+    let l = at-loop .loop in
+    let s = entry .args .run .now in
+    let z = at-zero-from .zero-from .result in
+    let f = at-zero-from .zero-from .ensures in
     let ahead = unescape-ahead s (l .i) z f in
     omega arith
 
 same-length : tie.Need-same-length Inv-loop μ-loop
 same-length c =
-    let l = c .before .before .before .before .before .before .before .loop in
-    let s = c .before .before .before .before .before .before .before .before .before .before .args .run .now in
-    let z = c .before .before .before .before .before .zero-from .result in
-    let f = c .before .before .before .before .before .zero-from .ensures in
-    let copied = unescape-copied s (l .i) z f (omega arith) (l .inv) (c .before .before .before .copy-to .ensures) in
+    let at-copy-to = c .before .before .before in
+    let at-zero-from = at-copy-to .before .before in
+    let at-loop = at-zero-from .before .before in
+    let entry = at-loop .before .before .before in
+    let l = at-loop .loop in
+    let s = entry .args .run .now in
+    let z = at-zero-from .zero-from .result in
+    let f = at-zero-from .zero-from .ensures in
+    let copied = unescape-copied s (l .i) z f (omega arith) (l .inv) (at-copy-to .copy-to .ensures) in
     copied .long
 
 returns : tie.Need-returns Inv-loop μ-loop
 returns c =
-    let l = c .before .before .before .before .before .before .before .loop in
-    let s = c .before .before .before .before .before .before .before .before .before .before .args .run .now in
-    let z = c .before .before .before .before .before .zero-from .result in
-    let f = c .before .before .before .before .before .zero-from .ensures in
-    let copied = unescape-copied s (l .i) z f (omega arith) (l .inv) (c .before .before .before .copy-to .ensures) in
+    let at-copy-to = c .before .before .before in
+    let at-zero-from = at-copy-to .before .before in
+    let at-loop = at-zero-from .before .before in
+    let entry = at-loop .before .before .before in
+    let l = at-loop .loop in
+    let s = entry .args .run .now in
+    let z = at-zero-from .zero-from .result in
+    let f = at-zero-from .zero-from .ensures in
+    let copied = unescape-copied s (l .i) z f (omega arith) (l .inv) (at-copy-to .copy-to .ensures) in
     let done = rw (unescape-past s z (c .if1 .taken)) at copied in
     (omega arith, left-none done)
 
 slice-write-dst : tie.Need-slice-write-dst Inv-loop μ-loop
 slice-write-dst c =
-    let l = c .before .before .before .before .before .before .before .loop in
-    let s = c .before .before .before .before .before .before .before .before .before .before .args .run .now in
-    let z = c .before .before .before .before .before .zero-from .result in
-    let f = c .before .before .before .before .before .zero-from .ensures in
-    let copied = unescape-copied s (l .i) z f (omega arith) (l .inv) (c .before .before .before .copy-to .ensures) in
+    let at-copy-to = c .before .before .before in
+    let at-zero-from = at-copy-to .before .before in
+    let at-loop = at-zero-from .before .before in
+    let entry = at-loop .before .before .before in
+    let l = at-loop .loop in
+    let s = entry .args .run .now in
+    let z = at-zero-from .zero-from .result in
+    let f = at-zero-from .zero-from .ensures in
+    let copied = unescape-copied s (l .i) z f (omega arith) (l .inv) (at-copy-to .copy-to .ensures) in
     let left = rw (unescape-over s (l .i) z f (c .if1 .left)) at copied in
     omega arith
 
 add-o-2 : tie.Need-add-o-2 Inv-loop μ-loop
 add-o-2 c =
-    let l = c .before .before .before .before .before .before .before .loop in
-    let s = c .before .before .before .before .before .before .before .before .before .before .args .run .now in
-    let z = c .before .before .before .before .before .zero-from .result in
-    let f = c .before .before .before .before .before .zero-from .ensures in
-    let copied = unescape-copied s (l .i) z f (omega arith) (l .inv) (c .before .before .before .copy-to .ensures) in
+    let at-copy-to = c .before .before .before in
+    let at-zero-from = at-copy-to .before .before in
+    let at-loop = at-zero-from .before .before in
+    let entry = at-loop .before .before .before in
+    let l = at-loop .loop in
+    let s = entry .args .run .now in
+    let z = at-zero-from .zero-from .result in
+    let f = at-zero-from .zero-from .ensures in
+    let copied = unescape-copied s (l .i) z f (omega arith) (l .inv) (at-copy-to .copy-to .ensures) in
     let left = rw (unescape-over s (l .i) z f (c .if1 .left)) at copied in
     omega arith
 
@@ -88,11 +110,15 @@ loop-less c = omega arith
 
 loop-again : tie.Need-loop-again Inv-loop μ-loop
 loop-again c =
-    let l = c .before .before .before .before .before .before .before .loop in
-    let s = c .before .before .before .before .before .before .before .before .before .before .args .run .now in
-    let z = c .before .before .before .before .before .zero-from .result in
-    let f = c .before .before .before .before .before .zero-from .ensures in
-    let copied = unescape-copied s (l .i) z f (omega arith) (l .inv) (c .before .before .before .copy-to .ensures) in
+    let at-copy-to = c .before .before .before in
+    let at-zero-from = at-copy-to .before .before in
+    let at-loop = at-zero-from .before .before in
+    let entry = at-loop .before .before .before in
+    let l = at-loop .loop in
+    let s = entry .args .run .now in
+    let z = at-zero-from .zero-from .result in
+    let f = at-zero-from .zero-from .ensures in
+    let copied = unescape-copied s (l .i) z f (omega arith) (l .inv) (at-copy-to .copy-to .ensures) in
     let left = rw (unescape-over s (l .i) z f (c .if1 .left)) at copied in
     left-store (omega arith) left
 

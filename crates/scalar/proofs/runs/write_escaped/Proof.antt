@@ -1,4 +1,4 @@
--- `write_escaped` meets its contract.
+-- The bytes before the first zero, and the run of the rest behind them, are the run.
 use borrow.Author.Needs.{needs}
 use native.Mathlib.Omega.{arith}
 use Rattle.scalar.proofs.Escapes.{escaped-bounds}
@@ -13,13 +13,25 @@ add-write-rest : tie.Need-add-write-rest
 add-write-rest c = search needs
 
 write-rest-requires : tie.Need-write-rest-requires
-write-rest-requires c κs = let a = front-ahead (c .before .before .before .before .before .before .before .args .payload .now) (c .before .before .before .copy-clear .result) ((c .before .before .before .copy-clear .ensures) .0) ((c .before .before .before .copy-clear .ensures) .1) in ((c .before .before .before .copy-clear .ensures) .0, omega arith)
+write-rest-requires c κs =
+    let at-copy-clear = c .before .before .before in
+    let entry = at-copy-clear .before .before .before .before in
+    let a = front-ahead (entry .args .payload .now) (at-copy-clear .copy-clear .result) ((at-copy-clear .copy-clear .ensures) .0) ((at-copy-clear .copy-clear .ensures) .1) in
+    ((at-copy-clear .copy-clear .ensures) .0, omega arith)
 
 same-length : tie.Need-same-length
 same-length c = search needs
 
 returns : tie.Need-returns
-returns c = let a = front-ahead (c .before .before .before .before .before .before .before .before .before .before .args .payload .now) (c .before .before .before .before .before .before .copy-clear .result) ((c .before .before .before .before .before .before .copy-clear .ensures) .0) ((c .before .before .before .before .before .before .copy-clear .ensures) .1) in (omega arith, front-then (c .before .before .before .before .before .before .before .before .before .before .args .payload .now) (c .before .before .before .before .before .before .copy-clear .result) ((c .before .before .before .before .before .before .copy-clear .ensures) .0) ((c .before .before .before .before .before .before .copy-clear .ensures) .1) (c .before .before .before .before .before .before .before .before .before .before .args .buf .now) (c .before .before .before .before .before .before .before .before .before .before .args .at) (c .before .before .before .before .before .before .before .before .before .before .pre) ((c .before .before .before .before .before .before .copy-clear .ensures) .2) (c .before .before .write-rest .ensures .1))
+returns c =
+    let at-write-rest = c .before .before in
+    let at-copy-clear = at-write-rest .before .before .before .before in
+    let entry = at-copy-clear .before .before .before .before in
+    let a = entry .args in
+    let z = at-copy-clear .copy-clear .result in
+    let e = at-copy-clear .copy-clear .ensures in
+    let ahead = front-ahead (a .payload .now) z (e .0) (e .1) in
+    (omega arith, front-then (a .payload .now) z (e .0) (e .1) (a .buf .now) (a .at) (entry .pre) (e .2) (at-write-rest .write-rest .ensures .1))
 
 pub write-escaped-spec : {M : Type 1} → statement M
 write-escaped-spec =

@@ -1,4 +1,4 @@
--- `write_rest` meets its contract. The loop's invariant: the run of what is left of the payload, put from o on, makes the whole.
+-- The loop's invariant: the run of what is left of the payload, put from o on, makes the whole. What falls is the payload left.
 use Prim.Native.Nat.{_-_, _≤_}
 use native.Mathlib.Omega.{arith}
 use lib.ListN.{length, drop, length-set}
@@ -22,10 +22,13 @@ zero-from-requires c κs = omega arith
 
 copy-to-requires : tie.Need-copy-to-requires Inv-loop μ-loop
 copy-to-requires c κs =
-    let l = c .before .before .loop in
-    let s = c .before .before .before .before .before .args .payload .now in
-    let z = c .before .zero-from .result in
-    let f = c .before .zero-from .ensures in
+    let at-zero-from = c .before in
+    let at-loop = at-zero-from .before in
+    let entry = at-loop .before .before .before in
+    let l = at-loop .loop in
+    let s = entry .args .payload .now in
+    let z = at-zero-from .zero-from .result in
+    let f = at-zero-from .zero-from .ensures in
     let ahead = escaped-ahead s (l .i) z f in
     (f .after, f .inside, omega arith)
 
@@ -34,50 +37,69 @@ sub-o c = c .before .before .before .before .zero-from .ensures .after
 
 add-o : tie.Need-add-o Inv-loop μ-loop
 add-o c =
-    let l = c .before .before .before .before .before .loop in
-    let s = c .before .before .before .before .before .before .before .before .args .payload .now in
-    let z = c .before .before .before .before .zero-from .result in
-    let f = c .before .before .before .before .zero-from .ensures in
+    let at-zero-from = c .before .before .before .before in
+    let at-loop = at-zero-from .before in
+    let entry = at-loop .before .before .before in
+    let l = at-loop .loop in
+    let s = entry .args .payload .now in
+    let z = at-zero-from .zero-from .result in
+    let f = at-zero-from .zero-from .ensures in
     let ahead = escaped-ahead s (l .i) z f in
     omega arith
 
 slice-write-buf : tie.Need-slice-write-buf Inv-loop μ-loop
 slice-write-buf c =
-    let l = c .before .before .before .before .before .before .loop in
-    let s = c .before .before .before .before .before .before .before .before .before .args .payload .now in
-    let z = c .before .before .before .before .before .zero-from .result in
-    let f = c .before .before .before .before .before .zero-from .ensures in
-    let copied = escaped-copied s (l .i) z f (omega arith) (l .inv .1) (c .before .before .before .copy-to .ensures) in
+    let at-copy-to = c .before .before .before in
+    let at-zero-from = at-copy-to .before .before in
+    let at-loop = at-zero-from .before in
+    let entry = at-loop .before .before .before in
+    let l = at-loop .loop in
+    let s = entry .args .payload .now in
+    let z = at-zero-from .zero-from .result in
+    let f = at-zero-from .zero-from .ensures in
+    let copied = escaped-copied s (l .i) z f (omega arith) (l .inv .1) (at-copy-to .copy-to .ensures) in
     let left = rw (escaped-over s (l .i) z f (c .if1 .left)) at copied in
     omega arith
 
 add-o-2 : tie.Need-add-o-2 Inv-loop μ-loop
 add-o-2 c =
-    let l = c .before .before .before .before .before .before .loop in
-    let s = c .before .before .before .before .before .before .before .before .before .args .payload .now in
-    let z = c .before .before .before .before .before .zero-from .result in
-    let f = c .before .before .before .before .before .zero-from .ensures in
-    let copied = escaped-copied s (l .i) z f (omega arith) (l .inv .1) (c .before .before .before .copy-to .ensures) in
+    let at-copy-to = c .before .before .before in
+    let at-zero-from = at-copy-to .before .before in
+    let at-loop = at-zero-from .before in
+    let entry = at-loop .before .before .before in
+    let l = at-loop .loop in
+    let s = entry .args .payload .now in
+    let z = at-zero-from .zero-from .result in
+    let f = at-zero-from .zero-from .ensures in
+    let copied = escaped-copied s (l .i) z f (omega arith) (l .inv .1) (at-copy-to .copy-to .ensures) in
     let left = rw (escaped-over s (l .i) z f (c .if1 .left)) at copied in
     omega arith
 
 slice-write-buf-2 : tie.Need-slice-write-buf-2 Inv-loop μ-loop
 slice-write-buf-2 c =
-    let l = c .before .before .before .before .before .before .loop in
-    let s = c .before .before .before .before .before .before .before .before .before .args .payload .now in
-    let z = c .before .before .before .before .before .zero-from .result in
-    let f = c .before .before .before .before .before .zero-from .ensures in
-    let copied = escaped-copied s (l .i) z f (omega arith) (l .inv .1) (c .before .before .before .copy-to .ensures) in
+    let at-copy-to = c .before .before .before in
+    let at-zero-from = at-copy-to .before .before in
+    let at-loop = at-zero-from .before in
+    let entry = at-loop .before .before .before in
+    let l = at-loop .loop in
+    let s = entry .args .payload .now in
+    let z = at-zero-from .zero-from .result in
+    let f = at-zero-from .zero-from .ensures in
+    let copied = escaped-copied s (l .i) z f (omega arith) (l .inv .1) (at-copy-to .copy-to .ensures) in
     let left = rw (escaped-over s (l .i) z f (c .if1 .left)) at copied in
     simp length-set (omega arith)
 
 add-o-3 : tie.Need-add-o-3 Inv-loop μ-loop
 add-o-3 c =
-    let l = c .before .before .before .before .before .before .loop in
-    let s = c .before .before .before .before .before .before .before .before .before .args .payload .now in
-    let z = c .before .before .before .before .before .zero-from .result in
-    let f = c .before .before .before .before .before .zero-from .ensures in
-    let copied = escaped-copied s (l .i) z f (omega arith) (l .inv .1) (c .before .before .before .copy-to .ensures) in
+    let at-copy-to = c .before .before .before in
+    let at-zero-from = at-copy-to .before .before in
+    let at-loop = at-zero-from .before in
+    let entry = at-loop .before .before .before in
+    let l = at-loop .loop in
+    let s = entry .args .payload .now in
+    let z = at-zero-from .zero-from .result in
+    let f = at-zero-from .zero-from .ensures in
+    let copied = escaped-copied s (l .i) z f (omega arith) (l .inv .1) (at-copy-to .copy-to .ensures) in
     let left = rw (escaped-over s (l .i) z f (c .if1 .left)) at copied in
     omega arith
 
@@ -89,50 +111,70 @@ loop-less c = omega arith
 
 loop-again : tie.Need-loop-again Inv-loop μ-loop
 loop-again c =
-    let l = c .before .before .before .before .before .before .loop in
-    let s = c .before .before .before .before .before .before .before .before .before .args .payload .now in
-    let z = c .before .before .before .before .before .zero-from .result in
-    let f = c .before .before .before .before .before .zero-from .ensures in
-    let copied = escaped-copied s (l .i) z f (omega arith) (l .inv .1) (c .before .before .before .copy-to .ensures) in
+    let at-copy-to = c .before .before .before in
+    let at-zero-from = at-copy-to .before .before in
+    let at-loop = at-zero-from .before in
+    let entry = at-loop .before .before .before in
+    let l = at-loop .loop in
+    let s = entry .args .payload .now in
+    let z = at-zero-from .zero-from .result in
+    let f = at-zero-from .zero-from .ensures in
+    let copied = escaped-copied s (l .i) z f (omega arith) (l .inv .1) (at-copy-to .copy-to .ensures) in
     let left = rw (escaped-over s (l .i) z f (c .if1 .left)) at copied in
     (omega arith, left-store (omega arith) (left-store (omega arith) left))
 
 slice-write-buf-3 : tie.Need-slice-write-buf-3 Inv-loop μ-loop
 slice-write-buf-3 c =
-    let l = c .before .before .before .before .before .before .loop in
-    let s = c .before .before .before .before .before .before .before .before .before .args .payload .now in
-    let z = c .before .before .before .before .before .zero-from .result in
-    let f = c .before .before .before .before .before .zero-from .ensures in
-    let copied = escaped-copied s (l .i) z f (omega arith) (l .inv .1) (c .before .before .before .copy-to .ensures) in
+    let at-copy-to = c .before .before .before in
+    let at-zero-from = at-copy-to .before .before in
+    let at-loop = at-zero-from .before in
+    let entry = at-loop .before .before .before in
+    let l = at-loop .loop in
+    let s = entry .args .payload .now in
+    let z = at-zero-from .zero-from .result in
+    let f = at-zero-from .zero-from .ensures in
+    let copied = escaped-copied s (l .i) z f (omega arith) (l .inv .1) (at-copy-to .copy-to .ensures) in
     let end = rw (escaped-past s z (c .if1 .taken)) at copied in
     omega arith
 
 add-result : tie.Need-add-result Inv-loop μ-loop
 add-result c =
-    let l = c .before .before .before .before .before .before .loop in
-    let s = c .before .before .before .before .before .before .before .before .before .args .payload .now in
-    let z = c .before .before .before .before .before .zero-from .result in
-    let f = c .before .before .before .before .before .zero-from .ensures in
-    let copied = escaped-copied s (l .i) z f (omega arith) (l .inv .1) (c .before .before .before .copy-to .ensures) in
+    let at-copy-to = c .before .before .before in
+    let at-zero-from = at-copy-to .before .before in
+    let at-loop = at-zero-from .before in
+    let entry = at-loop .before .before .before in
+    let l = at-loop .loop in
+    let s = entry .args .payload .now in
+    let z = at-zero-from .zero-from .result in
+    let f = at-zero-from .zero-from .ensures in
+    let copied = escaped-copied s (l .i) z f (omega arith) (l .inv .1) (at-copy-to .copy-to .ensures) in
     let end = rw (escaped-past s z (c .if1 .taken)) at copied in
     omega arith
 
 same-length : tie.Need-same-length Inv-loop μ-loop
 same-length c =
-    let l = c .before .before .before .before .before .before .loop in
-    let s = c .before .before .before .before .before .before .before .before .before .args .payload .now in
-    let z = c .before .before .before .before .before .zero-from .result in
-    let f = c .before .before .before .before .before .zero-from .ensures in
-    let copied = escaped-copied s (l .i) z f (omega arith) (l .inv .1) (c .before .before .before .copy-to .ensures) in
+    let at-copy-to = c .before .before .before in
+    let at-zero-from = at-copy-to .before .before in
+    let at-loop = at-zero-from .before in
+    let entry = at-loop .before .before .before in
+    let l = at-loop .loop in
+    let s = entry .args .payload .now in
+    let z = at-zero-from .zero-from .result in
+    let f = at-zero-from .zero-from .ensures in
+    let copied = escaped-copied s (l .i) z f (omega arith) (l .inv .1) (at-copy-to .copy-to .ensures) in
     simp length-set (copied .long)
 
 returns : tie.Need-returns Inv-loop μ-loop
 returns c =
-    let l = c .before .before .before .before .before .before .loop in
-    let s = c .before .before .before .before .before .before .before .before .before .args .payload .now in
-    let z = c .before .before .before .before .before .zero-from .result in
-    let f = c .before .before .before .before .before .zero-from .ensures in
-    let copied = escaped-copied s (l .i) z f (omega arith) (l .inv .1) (c .before .before .before .copy-to .ensures) in
+    let at-copy-to = c .before .before .before in
+    let at-zero-from = at-copy-to .before .before in
+    let at-loop = at-zero-from .before in
+    let entry = at-loop .before .before .before in
+    let l = at-loop .loop in
+    let s = entry .args .payload .now in
+    let z = at-zero-from .zero-from .result in
+    let f = at-zero-from .zero-from .ensures in
+    let copied = escaped-copied s (l .i) z f (omega arith) (l .inv .1) (at-copy-to .copy-to .ensures) in
     let end = rw (escaped-past s z (c .if1 .taken)) at copied in
     let done = left-store (omega arith) end in
     (omega arith, left-none done)

@@ -1,4 +1,4 @@
--- `write_run` meets its contract.
+-- The part is the slice.
 use native.Mathlib.Omega.{arith}
 use Rattle.scalar.proofs.Parts.{part-slice}
 use borrow.Author.Needs.{needs}
@@ -16,8 +16,9 @@ part-write-escaped-end c = search needs
 
 write-escaped-requires : tie.Need-write-escaped-requires
 write-escaped-requires c κs =
-    let a = c .before .before .before .before .args in
-    rw (part-slice (a .i) (a .e) (a .src .now) (omega arith)) (c .before .before .before .before .pre .2)
+    let entry = c .before .before .before .before in
+    let a = entry .args in
+    rw (part-slice (a .i) (a .e) (a .src .now) (omega arith)) (entry .pre .2)
 
 same-length : tie.Need-same-length
 same-length c = search needs

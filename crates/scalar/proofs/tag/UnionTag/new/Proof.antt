@@ -1,9 +1,6 @@
--- `UnionTag::new` meets its contract.
-use mathlib.Core.List.{[], _∷_}
+-- A discriminant of 32 bits has at most five bytes, so that tag and mark fit the six.
 use native.Mathlib.Omega.{arith}
-use Rattle.format.specs.Scalar.{uintBytes, tagBytes}
-use Rattle.scalar.proofs.Parts.{take-put}
-use Rattle.scalar.proofs.Widths.{length-uint, width-lt}
+use Rattle.scalar.proofs.Widths as laws
 use borrow.Author.Needs.{needs}
 use Rattle.scalar.proofs.tag.UnionTag.new.Statement.{statement}
 use Rattle.scalar.proofs.tag.UnionTag.new.Tie as tie
@@ -14,13 +11,16 @@ array-write-bytes c = search needs
 slice-aggregate-write-u64 : tie.Need-slice-aggregate-write-u64
 slice-aggregate-write-u64 c = search needs
 
+wide-word-requires : tie.Need-wide-word-requires
+wide-word-requires c κs = search needs
+
 write-u64-requires : tie.Need-write-u64-requires
-write-u64-requires c κs = omega (arith, length-uint (c .before .args .disc), width-lt 4 (c .before .args .disc) (omega arith) (omega arith))
+write-u64-requires c κs = let n = c .wide-word .result in omega (arith, laws.length-uint n, laws.width-lt 4 n (omega arith) (omega arith))
 
 returns : tie.Need-returns
-unfolding tagBytes
-returns c = rw (c .before .write-u64 .ensures .0, c .before .write-u64 .ensures .1) (take-put (0x52 ∷ 0 ∷ 0 ∷ 0 ∷ 0 ∷ 0 ∷ []) 1 (uintBytes (c .before .before .before .args .disc)) (omega arith))
+returns c = search laws.tag-in
 
 pub new-spec : {M : Type 1} → statement M
 new-spec =
-    tie.close (tie.spec array-write-bytes slice-aggregate-write-u64 write-u64-requires returns)
+    tie.close
+    (tie.spec array-write-bytes slice-aggregate-write-u64 wide-word-requires write-u64-requires returns)
