@@ -1,4 +1,3 @@
--- Laws of the steps, one for each way out.
-pub mod FieldSteps
-pub mod GroupSteps
+-- Laws that the proofs share.
+pub mod ReadSteps
 pub mod WriteSteps

@@ -3,89 +3,117 @@ use mathlib.Core.Path.{_≡_, refl, sym, ap, _∙_}
 use mathlib.Core.List.{List, [], _∷_}
 use Prim.Native.Nat.{ℕ, _+_, _-_, _≤_, _<_}
 use native.Mathlib.Omega.{arith}
-use lib.ListN.{length}
+use lib.ListN.{length, take}
 use lib.Seq.{slice, take-all}
 use borrow.Author.Tests.{eq-eqb, ne-eqb, lt-ltb, le-ltb}
-use Rattle.format.specs.Answer.{Answer, ok, refused}
+use Rattle.format.specs.Answer.{ok}
+use Rattle.format.specs.Lengths.{lengthIn}
+use Rattle.format.specs.declared.Length.{Length}
 use Rattle.format.specs.Scalar.{intBytes, uintBytes, bytesBytes, strBytes, refBytes, tagBytes}
 use Rattle.format.specs.Utf8.{utf8}
 use Rattle.format.specs.Calls.{Called}
 use Rattle.format.specs.Fields.{put, putAt, putI64Call, putU64Call, putStrCall, putBytesCall, putFactIdCall}
-use Rattle.format.specs.Cursor.{Cursor, deep, wroteAt, putNull, putI64, putU64, putStr, putBytes, putFactId, putRecord, putUnion, putEnd}
-use Rattle.scalar.specs.Answers.{roomFor}
+use Rattle.format.specs.Cursor as cursor
+use Rattle.scalar.specs.Answers.{Puts, TagIn, roomFor}
 use Rattle.scalar.proofs.Cases.{by-test}
-use Rattle.scalar.proofs.Rooms.{room-ok, room-some, put-some}
+use Rattle.scalar.proofs.Rooms.{room-some, put-room, put-done, put-none}
+use Rattle.cursor.specs.declared.Cursor.{Cursor}
 use Rattle.cursor.specs.declared.Moved.{Moved}
-use Rattle.cursor.specs.declared.Moved.the-variants.{Refused}
-use Rattle.cursor.specs.Steps.{wroteOf, putMoved, Leaves}
+use Rattle.cursor.specs.declared.Moved.the-variants.{To, Refused}
+use Rattle.cursor.specs.Steps.{cursorOf, wroteOf, putMoved, Leaves}
 
--- room in the answer, and all of the bytes copied there
-pub put-answered : (d : List ℕ) (at : ℕ) (s : List ℕ) {r : ℕ} {l : List ℕ} → ok r ≡ roomFor (length d) at (length s) → l ≡ put d at (slice 0 (length s) s) → (ok r ≡ (putAt d at s) .answer) × (l ≡ (putAt d at s) .buffer)
-put-answered d at s p k =
-    let h = room-ok (length d) at (length s) p in
-    let q = put-some d at s h in
-    (p ∙ sym (room-some (length d) at (length s) h) ∙ q .0, k ∙ ap (put d at) (take-all (length s) s (omega arith)) ∙ q .1)
+-- ---- bytes as they stand: room was asked for all of them
 
--- a is the answer of what was put, and l the buffer afterwards; n is the depth behind it
-module _ (n : ℕ) (a : Answer ℕ) (l : List ℕ) (r : Moved) (w : wroteOf r ≡ putMoved n a) where
-  left-by : (p : Called ℕ) → a ≡ p .answer → l ≡ p .buffer → Leaves (wroteAt n p) r l
-  left-by p h k = record { answer = w ∙ ap (putMoved n) h; left = k }
+module _ (d : List ℕ) (at : ℕ) (s : List ℕ) (g : Length) (p : lengthIn g ≡ roomFor (length d) at (0 + length s)) where
+  pub plain-room : (n : ℕ) → g ≡ Length.Done n → at + (length s - 0) ≤ length d
+  plain-room n e = omega (arith, put-room d at (0 + length s) s (omega arith) g p e)
 
-module _ (b : List ℕ) (c : Cursor) where
-  module _ (x : ℕ) (d : ℕ) (e : d ≡ deep c) (a : Answer ℕ) (l : List ℕ) (r : Moved) (w : wroteOf r ≡ putMoved d a) where
-    pub i64-left : a ≡ (putI64Call b (c .at) x) .answer → l ≡ (putI64Call b (c .at) x) .buffer → Leaves (putI64 b c x) r l
-    unfolding putI64Call putI64
-    i64-left h k = rw (← e) (left-by d a l r w (putAt b (c .at) (intBytes x)) h k)
+  pub plain-done : (n : ℕ) → g ≡ Length.Done n → {l : List ℕ} → l ≡ put d at (slice 0 (length s) s) → Puts (putAt d at s) (Length.Done n) l
+  plain-done n e k =
+      let q : n ≡ at + (0 + length s) = placed ((rw e at p) ∙ sym (room-some (length d) at (0 + length s) (omega (arith, plain-room n e)))) in
+      put-done d at (0 + length s) s (omega arith) g p e (omega arith) (k ∙ ap (put d at) (take-all (length s) s (omega arith)))
+    where
+      placed : {a b : ℕ} → ok a ≡ ok b → a ≡ b
+      placed q = cc
 
-    pub u64-left : a ≡ (putU64Call b (c .at) x) .answer → l ≡ (putU64Call b (c .at) x) .buffer → Leaves (putU64 b c x) r l
-    unfolding putU64Call putU64
-    u64-left h k = rw (← e) (left-by d a l r w (putAt b (c .at) (uintBytes x)) h k)
+  pub plain-none : (n k : ℕ) → g ≡ Length.Refused n k → Puts (putAt d at s) (Length.Refused n k) d
+  plain-none n k e = put-none d at (0 + length s) s (omega arith) g p e
 
-    pub id-left : a ≡ (putFactIdCall b (c .at) x) .answer → l ≡ (putFactIdCall b (c .at) x) .buffer → Leaves (putFactId b c x) r l
-    unfolding putFactIdCall putFactId
-    id-left h k = rw (← e) (left-by d a l r w (putAt b (c .at) (refBytes x)) h k)
+-- a union's tag is bytes as they stand
+pub tag-part : (disc : ℕ) (t : List ℕ) (n : ℕ) → TagIn disc t n → n ≡ length (take n t)
+tag-part disc t n h = h .long ∙ sym (ap length (h .front))
 
-  module _ (s : List ℕ) (d : ℕ) (e : d ≡ deep c) (a : Answer ℕ) (l : List ℕ) (r : Moved) (w : wroteOf r ≡ putMoved d a) where
-    pub bytes-left : a ≡ (putBytesCall b (c .at) s) .answer → l ≡ (putBytesCall b (c .at) s) .buffer → Leaves (putBytes b c s) r l
-    unfolding putBytesCall putBytes
-    bytes-left h k = rw (← e) (left-by d a l r w (putAt b (c .at) (bytesBytes s)) h k)
+pub tag-left : (d : List ℕ) (at disc : ℕ) (t : List ℕ) (n : ℕ) → TagIn disc t n → {r : Length} {l : List ℕ} → Puts (putAt d at (take n t)) r l → Puts (putAt d at (tagBytes disc)) r l
+tag-left d at disc t n h p = rw (h .front) at p
 
-    pub str-left : a ≡ (putStrCall b (c .at) s) .answer → l ≡ (putStrCall b (c .at) s) .buffer → Leaves (putStr b c s) r l
-    unfolding putStrCall putStr
-    str-left h k =
-        rw (← e)
-        (by-test (utf8 s) (λ t. rw t (left-by d a l r w (putAt b (c .at) (strBytes s)) (rw t at h) (rw t at k)))
-        (λ t. rw t (left-by d a l r w (record { answer = refused 4 0; buffer = b }) (rw t at h) (rw t at k))))
+-- ---- the cursor behind what was put
 
-  module _ (d : ℕ) (e : d ≡ deep c) where
-    pub null-left : d ≡ 0 → (a : Answer ℕ) (l : List ℕ) (r : Moved) → wroteOf r ≡ putMoved d a → a ≡ (putAt b (c .at) (0 ∷ [])) .answer → l ≡ (putAt b (c .at) (0 ∷ [])) .buffer → Leaves (putNull b c) r l
-    unfolding putNull
-    null-left z a l r w h k = rw (← e, le-ltb 0 d (omega arith)) (left-by d a l r w (putAt b (c .at) (0 ∷ [])) h k)
+pub wrote-to : (p : Length) (d n : ℕ) → p ≡ Length.Done n → wroteOf (To (record { at = n; depth = d })) ≡ putMoved d (lengthIn p)
+wrote-to p d n e = rw e
 
-    pub null-in-left : (d ≡ 0 → ⊥) → (a : Answer ℕ) (l : List ℕ) (r : Moved) → wroteOf r ≡ putMoved d a → a ≡ (putAt b (c .at) (0 ∷ 0xFF ∷ [])) .answer → l ≡ (putAt b (c .at) (0 ∷ 0xFF ∷ [])) .buffer → Leaves (putNull b c) r l
-    unfolding putNull
-    null-in-left z a l r w h k = rw (← e, lt-ltb 0 d (omega arith)) (left-by d a l r w (putAt b (c .at) (0 ∷ 0xFF ∷ [])) h k)
+pub wrote-refused : (p : Length) (d n k : ℕ) → p ≡ Length.Refused n k → wroteOf (Refused n k) ≡ putMoved d (lengthIn p)
+wrote-refused p d n k e = rw e
 
-    pub record-deep-left : 256 ≤ d → Leaves (putRecord b c) (Refused 6 0) b
-    unfolding putRecord
-    record-deep-left m = rw (← e, le-ltb d 256 m) (record { answer = refl; left = refl })
+module _ (b : List ℕ) (c : Cursor) (d : ℕ) (f : d ≡ cursor.deep (cursorOf c)) where
+  module _ (r : Moved) (p : Length) (l : List ℕ) where
+    left-by : (n : ℕ) → wroteOf r ≡ putMoved n (lengthIn p) → (q : Called ℕ) → Puts q p l → Leaves (cursor.wroteAt n q) r l
+    left-by n w q h = record { answer = w ∙ ap (putMoved n) (h .answer); left = h .left }
 
-    pub record-left : d < 256 → (a : Answer ℕ) (l : List ℕ) (r : Moved) → wroteOf r ≡ putMoved (d + 1) a → a ≡ (putAt b (c .at) (0x22 ∷ [])) .answer → l ≡ (putAt b (c .at) (0x22 ∷ [])) .buffer → Leaves (putRecord b c) r l
-    unfolding putRecord
-    record-left m a l r w h k = rw (← e, lt-ltb d 256 m) (left-by (d + 1) a l r w (putAt b (c .at) (0x22 ∷ [])) h k)
+    module _ (w : wroteOf r ≡ putMoved d (lengthIn p)) where
+      pub i64-left : (x : ℕ) → Puts (putI64Call b (c .at) x) p l → Leaves (cursor.putI64 b (cursorOf c) x) r l
+      unfolding putI64Call cursor.putI64
+      i64-left x h = rw (← f) (left-by d w (putAt b (c .at) (intBytes x)) h)
 
-    pub union-deep-left : (x : ℕ) → 256 ≤ d → Leaves (putUnion b c x) (Refused 6 0) b
-    unfolding putUnion
-    union-deep-left x m = rw (← e, le-ltb d 256 m) (record { answer = refl; left = refl })
+      pub u64-left : (x : ℕ) → Puts (putU64Call b (c .at) x) p l → Leaves (cursor.putU64 b (cursorOf c) x) r l
+      unfolding putU64Call cursor.putU64
+      u64-left x h = rw (← f) (left-by d w (putAt b (c .at) (uintBytes x)) h)
 
-    pub union-left : (x : ℕ) → d < 256 → (a : Answer ℕ) (l : List ℕ) (r : Moved) → wroteOf r ≡ putMoved (d + 1) a → a ≡ (putAt b (c .at) (tagBytes x)) .answer → l ≡ (putAt b (c .at) (tagBytes x)) .buffer → Leaves (putUnion b c x) r l
-    unfolding putUnion
-    union-left x m a l r w h k = rw (← e, lt-ltb d 256 m) (left-by (d + 1) a l r w (putAt b (c .at) (tagBytes x)) h k)
+      pub id-left : (x : ℕ) → Puts (putFactIdCall b (c .at) x) p l → Leaves (cursor.putFactId b (cursorOf c) x) r l
+      unfolding putFactIdCall cursor.putFactId
+      id-left x h = rw (← f) (left-by d w (putAt b (c .at) (refBytes x)) h)
 
-    pub end-left : (c .depth ≡ 0 → ⊥) → (a : Answer ℕ) (l : List ℕ) (r : Moved) → wroteOf r ≡ putMoved (d - 1) a → a ≡ (putAt b (c .at) (0 ∷ [])) .answer → l ≡ (putAt b (c .at) (0 ∷ [])) .buffer → Leaves (putEnd b c) r l
-    unfolding putEnd
-    end-left z a l r w h k = rw (ne-eqb (c .depth) 0 z, ← e) (left-by (d - 1) a l r w (putAt b (c .at) (0 ∷ [])) h k)
+      pub bytes-left : (s : List ℕ) → Puts (putBytesCall b (c .at) s) p l → Leaves (cursor.putBytes b (cursorOf c) s) r l
+      unfolding putBytesCall cursor.putBytes
+      bytes-left s h = rw (← f) (left-by d w (putAt b (c .at) (bytesBytes s)) h)
 
-  pub end-none-left : c .depth ≡ 0 → Leaves (putEnd b c) (Refused 6 0) b
-  unfolding putEnd
-  end-none-left z = rw (eq-eqb (c .depth) 0 z) (record { answer = refl; left = refl })
+      pub str-left : (s : List ℕ) → Puts (putStrCall b (c .at) s) p l → Leaves (cursor.putStr b (cursorOf c) s) r l
+      unfolding putStrCall cursor.putStr
+      str-left s h =
+          rw (← f)
+          (by-test (utf8 s) (λ t. rw t (left-by d w (putAt b (c .at) (strBytes s)) (rw t at h)))
+          (λ t. rw t (let k = rw t at h in record { answer = w ∙ ap (putMoved d) (k .answer); left = k .left })))
+
+      -- a null outside every group, and in one
+      pub null-left : d ≡ 0 → Puts (putAt b (c .at) (0 ∷ [])) p l → Leaves (cursor.putNull b (cursorOf c)) r l
+      unfolding cursor.putNull
+      null-left z h = rw (← f, le-ltb 0 d (omega arith)) (left-by d w (putAt b (c .at) (0 ∷ [])) h)
+
+      pub null-in-left : (d ≡ 0 → ⊥) → Puts (putAt b (c .at) (0 ∷ 0xFF ∷ [])) p l → Leaves (cursor.putNull b (cursorOf c)) r l
+      unfolding cursor.putNull
+      null-in-left z h = rw (← f, lt-ltb 0 d (omega arith)) (left-by d w (putAt b (c .at) (0 ∷ 0xFF ∷ [])) h)
+
+    -- a group opens, and ends
+    module _ (m : d < 256) (w : wroteOf r ≡ putMoved (d + 1) (lengthIn p)) where
+      pub record-left : Puts (putAt b (c .at) (0x22 ∷ [])) p l → Leaves (cursor.putRecord b (cursorOf c)) r l
+      unfolding cursor.putRecord
+      record-left h = rw (← f, lt-ltb d 256 m) (left-by (d + 1) w (putAt b (c .at) (0x22 ∷ [])) h)
+
+      pub union-left : (x : ℕ) → Puts (putAt b (c .at) (tagBytes x)) p l → Leaves (cursor.putUnion b (cursorOf c) x) r l
+      unfolding cursor.putUnion
+      union-left x h = rw (← f, lt-ltb d 256 m) (left-by (d + 1) w (putAt b (c .at) (tagBytes x)) h)
+
+    pub end-left : (c .depth ≡ 0 → ⊥) → wroteOf r ≡ putMoved (d - 1) (lengthIn p) → Puts (putAt b (c .at) (0 ∷ [])) p l → Leaves (cursor.putEnd b (cursorOf c)) r l
+    unfolding cursor.putEnd
+    end-left z w h = rw (ne-eqb (c .depth) 0 z, ← f) (left-by (d - 1) w (putAt b (c .at) (0 ∷ [])) h)
+
+  pub record-deep-left : 256 ≤ d → Leaves (cursor.putRecord b (cursorOf c)) (Refused 6 0) b
+  unfolding cursor.putRecord
+  record-deep-left m = rw (← f, le-ltb d 256 m) (record { answer = refl; left = refl })
+
+  pub union-deep-left : (x : ℕ) → 256 ≤ d → Leaves (cursor.putUnion b (cursorOf c) x) (Refused 6 0) b
+  unfolding cursor.putUnion
+  union-deep-left x m = rw (← f, le-ltb d 256 m) (record { answer = refl; left = refl })
+
+pub end-none-left : (b : List ℕ) (c : Cursor) → c .depth ≡ 0 → Leaves (cursor.putEnd b (cursorOf c)) (Refused 6 0) b
+unfolding cursor.putEnd
+end-none-left b c z = rw (eq-eqb (c .depth) 0 z) (record { answer = refl; left = refl })

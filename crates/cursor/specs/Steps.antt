@@ -2,7 +2,7 @@
 use mathlib.Core.Path.{_≡_}
 use mathlib.Core.Bool.{Bool}
 use mathlib.Core.List.{List}
-use Prim.Native.Nat.{ℕ, _+_}
+use Prim.Native.Nat.{ℕ, _+_, _^_, _<_}
 use Rattle.format.specs.Answer.{Answer, ok, refused, andThen}
 use Rattle.format.specs.Fields.{Taken as TakenField, Place, inKey, inScratch, partOf}
 use Rattle.format.specs.Cursor as cursor
@@ -69,6 +69,11 @@ abbrev pub usedOf : {A : Type 0} → Answer (TakenField A) → ℕ
 usedOf (ok t) = t .used
 usedOf (refused n d) = 0
 
+-- the same of what has no value
+abbrev pub stepOf : Answer ℕ → ℕ
+stepOf (ok n) = n
+stepOf (refused n d) = 0
+
 -- where in the bytes a payload starts; 0 where it is not there
 abbrev pub keyPlace : Answer (TakenField Place) → ℕ
 keyPlace (ok t) = startOf (t .value)
@@ -78,13 +83,21 @@ keyPlace (ok t) = startOf (t .value)
     startOf (inScratch len) = 0
 keyPlace (refused n d) = 0
 
+-- neither the place behind a payload's field nor that of the payload is too large
+pub record PartFits (at : ℕ) (a : Answer (TakenField Place)) : Type 0 where
+  pub behind : at + usedOf a < 2 ^ 64
+  pub start : at + keyPlace a < 2 ^ 64
+
 -- a place in the rest of a key as one in the key
 abbrev pub shifted : ℕ → Place → Place
 shifted n (inKey at len) = inKey (n + at) len
 shifted n (inScratch len) = inScratch len
 
-abbrev pub intMoved : cursor.Cursor → Answer (TakenField ℕ) → Answer (cursor.Moved ℕ)
-intMoved c a = andThen a (λ t. ok (record { value = t .value; next = cursor.onTo c (t .used) (cursor.deep c) }))
+abbrev pub intMoved : ℕ → cursor.Cursor → Answer (TakenField ℕ) → Answer (cursor.Moved ℕ)
+intMoved depth c a = andThen a (λ t. ok (record { value = t .value; next = cursor.onTo c (t .used) depth }))
+
+abbrev pub stepMoved : ℕ → cursor.Cursor → Answer ℕ → Answer (cursor.Moved Unit)
+stepMoved depth c a = andThen a (λ n. ok (record { value = tt; next = cursor.onTo c n depth }))
 
 abbrev pub partMoved : cursor.Cursor → Answer (TakenField Place) → Answer (cursor.Moved Place)
 partMoved c a = andThen a (λ t. ok (record { value = shifted (c .at) (t .value); next = cursor.onTo c (t .used) (cursor.deep c) }))

@@ -2,14 +2,16 @@
 use crate::Cursor;
 use crate::Moved;
 use crate::depth_of;
+use format::Length;
 use scalar::GotInt;
 use scalar::GotPart;
+use scalar::groups;
 ghost use mathlib.Core.Path.{_≡_};
 ghost use Prim.Native.Nat.{_+_, _^_, _<_};
-ghost use Rattle.format.specs.Read.{endsHere};
+ghost use Rattle.format.specs.Lengths.{lengthIn};
 ghost use Rattle.format.specs.Cursor as cursor;
 ghost use Rattle.scalar.specs.Answers.{gotInt, gotPart};
-ghost use Rattle.cursor.specs.Steps.{cursorOf, takenOf, movedOf, partAnswer, endOf, usedOf, keyPlace, intMoved, partMoved, partIn, Hands};
+ghost use Rattle.cursor.specs.Steps.{cursorOf, takenOf, movedOf, partAnswer, endOf, usedOf, stepOf, PartFits, intMoved, stepMoved, partMoved, partIn, Hands};
 
 // A number and the cursor behind it; or a refusal and its detail.
 pub enum Taken {
@@ -30,12 +32,6 @@ pub enum RecordEnd {
     Refused(u32, u64),
 }
 
-fn wide(x: u8) -> u64
-    ensures { λ r. ⌜ r ≡ x ⌝ }
-{
-    x as u64
-}
-
 // What is left of the key, the empty part where the place is past its end.
 pub fn remaining<'a>(key: &'a [u8], c: Cursor) -> &'a [u8]
     ensures { λ r. ⌜ now r ≡ cursor.rest (now (key .entry)) (cursorOf c) ⌝ }
@@ -45,22 +41,6 @@ pub fn remaining<'a>(key: &'a [u8], c: Cursor) -> &'a [u8]
         return &key[..0];
     }
     &key[at..]
-}
-
-// Does a group end here: a 00 not followed by FF?
-fn ends_here(rest: &[u8]) -> bool
-    ensures { λ r. ⌜ r ≡ endsHere (now (rest .entry)) ⌝ }
-{
-    if rest.len() == 0 {
-        return false;
-    }
-    if rest[0] != format::MARK_TERM {
-        return false;
-    }
-    if rest.len() < 2 {
-        return true;
-    }
-    rest[1] != format::MARK_ESCAPE
 }
 
 // The cursor so many bytes on, and at a depth.
@@ -74,13 +54,13 @@ fn on_to(c: Cursor, n: usize, depth: u32) -> Cursor
     }
 }
 
-// A number that was read at the cursor.
-fn taken_int(c: Cursor, got: GotInt) -> Taken
+// A number that was read at the cursor, and a depth behind it.
+fn taken_int(c: Cursor, got: GotInt, depth: u32) -> Taken
     requires { ⌜ c .at + usedOf (gotInt got) < 2 ^ 64 ⌝ }
-    ensures { λ r. ⌜ takenOf r ≡ intMoved (cursorOf c) (gotInt got) ⌝ }
+    ensures { λ r. ⌜ takenOf r ≡ intMoved depth (cursorOf c) (gotInt got) ⌝ }
 {
     match got {
-        GotInt::Value(v, n) => Taken::Value(v, on_to(c, n, depth_of(c))),
+        GotInt::Value(v, n) => Taken::Value(v, on_to(c, n, depth)),
         GotInt::Refused(no, detail) => Taken::Refused(no, detail),
     }
 }
@@ -89,26 +69,26 @@ fn taken_int(c: Cursor, got: GotInt) -> Taken
 pub fn take_i64(key: &[u8], c: Cursor) -> Taken
     ensures { λ r. ⌜ takenOf r ≡ cursor.takeI64 (now (key .entry)) (cursorOf c) ⌝ }
 {
-    taken_int(c, scalar::get_i64(remaining(key, c)))
+    taken_int(c, scalar::get_i64(remaining(key, c)), depth_of(c))
 }
 
 // Takes an unsigned integer.
 pub fn take_u64(key: &[u8], c: Cursor) -> Taken
     ensures { λ r. ⌜ takenOf r ≡ cursor.takeU64 (now (key .entry)) (cursorOf c) ⌝ }
 {
-    taken_int(c, scalar::get_u64(remaining(key, c)))
+    taken_int(c, scalar::get_u64(remaining(key, c)), depth_of(c))
 }
 
 // Takes a reference. No type is at hand, so only its sequence is checked.
 pub fn take_fact_id(key: &[u8], c: Cursor) -> Taken
     ensures { λ r. ⌜ takenOf r ≡ cursor.takeFactId (now (key .entry)) (cursorOf c) ⌝ }
 {
-    taken_int(c, scalar::get_fact_id(remaining(key, c)))
+    taken_int(c, scalar::get_fact_id(remaining(key, c)), depth_of(c))
 }
 
 // A payload that was read at the cursor: a place in the rest of the key is one in the key.
 fn taken_part(c: Cursor, got: GotPart) -> TakenPart
-    requires { ⌜ (c .at + usedOf (gotPart got) < 2 ^ 64) × (c .at + keyPlace (gotPart got) < 2 ^ 64) ⌝ }
+    requires { ⌜ PartFits (c .at) (gotPart got) ⌝ }
     ensures { λ r. ⌜ partAnswer r ≡ partMoved (cursorOf c) (gotPart got) ⌝ }
 {
     match got {
@@ -145,69 +125,39 @@ pub fn payload<'a>(key: &'a [u8], scratch: &'a [u8], taken: TakenPart) -> &'a [u
     }
 }
 
+// A step at the cursor that has no value of its own, and a depth behind it.
+fn moved(c: Cursor, got: Length, depth: u32) -> Moved
+    requires { ⌜ c .at + stepOf (lengthIn got) < 2 ^ 64 ⌝ }
+    ensures { λ r. ⌜ movedOf r ≡ stepMoved depth (cursorOf c) (lengthIn got) ⌝ }
+{
+    match got {
+        Length::Done(n) => Moved::To(on_to(c, n, depth)),
+        Length::Refused(no, detail) => Moved::Refused(no, detail),
+    }
+}
+
 // Takes a null. Inside a group its escape is due.
 pub fn take_null(key: &[u8], c: Cursor) -> Moved
     ensures { λ r. ⌜ movedOf r ≡ cursor.takeNull (now (key .entry)) (cursorOf c) ⌝ }
 {
-    let rest = remaining(key, c);
-    if rest.len() == 0 {
-        return Moved::Refused(format::UNEXPECTED_EOF, 0);
-    }
-    let mark = rest[0];
-    if mark != format::MARK_NULL {
-        return Moved::Refused(format::UNEXPECTED_MARK, wide(mark));
-    }
     let depth = depth_of(c);
-    if depth == 0 {
-        return Moved::To(on_to(c, 1, depth));
-    }
-    if ends_here(rest) {
-        return Moved::Refused(format::UNEXPECTED_TERMINATOR, 0);
-    }
-    Moved::To(on_to(c, 2, depth))
+    moved(c, groups::null(remaining(key, c), 0 < depth), depth)
 }
 
 // Opens a record: its mark, then its depth.
 pub fn open_record(key: &[u8], c: Cursor) -> Moved
     ensures { λ r. ⌜ movedOf r ≡ cursor.openRecord (now (key .entry)) (cursorOf c) ⌝ }
 {
-    let rest = remaining(key, c);
-    if rest.len() == 0 {
-        return Moved::Refused(format::UNEXPECTED_EOF, 0);
-    }
-    let mark = rest[0];
-    if mark != format::MARK_RECORD {
-        return Moved::Refused(format::UNEXPECTED_MARK, wide(mark));
-    }
     let depth = depth_of(c);
-    if depth < format::MAX_RECORD_DEPTH {
-        return Moved::To(on_to(c, 1, depth + 1));
-    }
-    Moved::Refused(format::BAD_RECORD, 0)
+    moved(c, groups::open_record(remaining(key, c), depth), depth + 1)
 }
 
 // Opens a union: its mark, its discriminant, then its depth. The discriminant may be any 64-bit number.
 pub fn open_union(key: &[u8], c: Cursor) -> Taken
     ensures { λ r. ⌜ takenOf r ≡ cursor.openUnion (now (key .entry)) (cursorOf c) ⌝ }
 {
-    let rest = remaining(key, c);
-    if rest.len() == 0 {
-        return Taken::Refused(format::UNEXPECTED_EOF, 0);
-    }
-    let mark = rest[0];
-    if mark != format::MARK_UNION {
-        return Taken::Refused(format::UNEXPECTED_MARK, wide(mark));
-    }
     let depth = depth_of(c);
-    match scalar::get_u64(&rest[1..]) {
-        GotInt::Value(tag, n) => {
-            if format::MAX_RECORD_DEPTH <= depth {
-                return Taken::Refused(format::BAD_RECORD, 0);
-            }
-            Taken::Value(tag, on_to(c, n + 1, depth + 1))
-        }
-        GotInt::Refused(no, detail) => Taken::Refused(no, detail),
-    }
+    taken_int(c, groups::open_union(remaining(key, c), depth), depth + 1)
 }
 
 // Closes the open group. At depth 0 none is open, whatever byte stands there.
@@ -217,14 +167,7 @@ pub fn close(key: &[u8], c: Cursor) -> Moved
     if c.depth == 0 {
         return Moved::Refused(format::BAD_RECORD, 0);
     }
-    let rest = remaining(key, c);
-    if rest.len() == 0 {
-        return Moved::Refused(format::UNEXPECTED_EOF, 0);
-    }
-    if ends_here(rest) {
-        return Moved::To(on_to(c, 1, depth_of(c) - 1));
-    }
-    Moved::Refused(format::UNEXPECTED_MARK, wide(rest[0]))
+    moved(c, groups::close(remaining(key, c)), depth_of(c) - 1)
 }
 
 // Does the open group end here? At depth 0 none is open.
@@ -238,5 +181,5 @@ pub fn is_record_end(key: &[u8], c: Cursor) -> RecordEnd
     if rest.len() == 0 {
         return RecordEnd::Refused(format::UNEXPECTED_EOF, 0);
     }
-    RecordEnd::Is(ends_here(rest))
+    RecordEnd::Is(groups::ends_here(rest))
 }

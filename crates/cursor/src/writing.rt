@@ -2,49 +2,48 @@
 use crate::Cursor;
 use crate::Moved;
 use crate::depth_of;
-use scalar::Put;
+use format::Length;
+use scalar::UnionTag;
 ghost use mathlib.Core.Path.{_≡_};
+ghost use Rattle.format.specs.Lengths.{lengthIn};
 ghost use Rattle.format.specs.Scalar.{tagBytes};
 ghost use Rattle.format.specs.Fields.{putAt};
 ghost use Rattle.format.specs.Cursor as cursor;
-ghost use Rattle.scalar.specs.Answers.{putAnswer};
+ghost use Rattle.scalar.specs.Answers.{Puts};
 ghost use Rattle.cursor.specs.Steps.{cursorOf, wroteOf, putMoved, Leaves};
 
 // The cursor behind what was put, at a depth.
-fn wrote(put: Put, depth: u32) -> Moved
-    ensures { λ r. ⌜ wroteOf r ≡ putMoved depth (putAnswer put) ⌝ }
+fn wrote(put: Length, depth: u32) -> Moved
+    ensures { λ r. ⌜ wroteOf r ≡ putMoved depth (lengthIn put) ⌝ }
 {
     match put {
-        Put::At(at) => Moved::To(Cursor { at, depth }),
-        Put::Refused(no, detail) => Moved::Refused(no, detail),
+        Length::Done(at) => Moved::To(Cursor { at, depth }),
+        Length::Refused(no, detail) => Moved::Refused(no, detail),
     }
 }
 
 // Puts bytes as they stand.
-fn put_plain(buf: &mut [u8], at: usize, bytes: &[u8]) -> Put
-    ensures { λ r. ⌜ (putAnswer r ≡ (putAt (now (buf .entry)) at (now (bytes .entry))) .answer) × (now (buf .exit) ≡ (putAt (now (buf .entry)) at (now (bytes .entry))) .buffer) ⌝ }
+fn put_plain(buf: &mut [u8], at: usize, bytes: &[u8]) -> Length
+    ensures { λ r. ⌜ Puts (putAt (now (buf .entry)) at (now (bytes .entry))) r (now (buf .exit)) ⌝ }
 {
     let n = bytes.len();
     match scalar::puts::room(buf.len(), at, 0, n) {
-        Put::At(end) => {
+        Length::Done(end) => {
             blocks::copy_to(buf, at, bytes, 0, n);
-            Put::At(end)
+            Length::Done(end)
         }
-        Put::Refused(no, detail) => Put::Refused(no, detail),
+        Length::Refused(no, detail) => Length::Refused(no, detail),
     }
 }
 
 // Puts a union's tag.
-fn put_tag(buf: &mut [u8], at: usize, disc: u64) -> Put
-    ensures { λ r. ⌜ (putAnswer r ≡ (putAt (now (buf .entry)) at (tagBytes disc)) .answer) × (now (buf .exit) ≡ (putAt (now (buf .entry)) at (tagBytes disc)) .buffer) ⌝ }
+fn put_tag(buf: &mut [u8], at: usize, disc: u32) -> Length
+    ensures { λ r. ⌜ Puts (putAt (now (buf .entry)) at (tagBytes disc)) r (now (buf .exit)) ⌝ }
 {
-    match scalar::puts::room(buf.len(), at, 1, scalar::ints::uint_len(disc)) {
-        Put::At(_) => {
-            buf[at] = format::MARK_UNION;
-            Put::At(scalar::ints::write_u64(buf, at + 1, disc))
-        }
-        Put::Refused(no, detail) => Put::Refused(no, detail),
-    }
+    let tag = UnionTag::new(disc);
+    let bytes = tag.bytes;
+    let n = tag.len;
+    put_plain(buf, at, &bytes[..n])
 }
 
 // Puts a null. Inside a group 00 alone would be its end, so the escape follows.
@@ -123,17 +122,17 @@ pub fn put_union(buf: &mut [u8], c: Cursor, disc: u32) -> Moved
     if format::MAX_RECORD_DEPTH <= depth {
         return Moved::Refused(format::BAD_RECORD, 0);
     }
-    wrote(put_tag(buf, at, disc as u64), depth + 1)
+    wrote(put_tag(buf, at, disc), depth + 1)
 }
 
 // Ends the open group. At depth 0 none is open, whatever room there is.
 pub fn put_end(buf: &mut [u8], c: Cursor) -> Moved
     ensures { λ r. ⌜ Leaves (cursor.putEnd (now (buf .entry)) (cursorOf c)) r (now (buf .exit)) ⌝ }
 {
-    if 0 < c.depth {
-        let at = c.at;
-        let end = [format::MARK_TERM];
-        return wrote(put_plain(buf, at, &end), depth_of(c) - 1);
+    if c.depth == 0 {
+        return Moved::Refused(format::BAD_RECORD, 0);
     }
-    Moved::Refused(format::BAD_RECORD, 0)
+    let at = c.at;
+    let end = [format::MARK_TERM];
+    wrote(put_plain(buf, at, &end), depth_of(c) - 1)
 }

@@ -1,4 +1,4 @@
--- `payload` meets its contract.
+-- The picker of the fields picks it; where the field ended does not matter.
 use borrow.Author.Needs.{needs}
 use Rattle.cursor.proofs.reading.payload.Statement.{statement}
 use Rattle.cursor.proofs.reading.payload.Tie as tie

@@ -1,8 +1,7 @@
--- `remaining` meets its contract.
+-- Past the end nothing is left; otherwise the part is the rest.
+use Rattle.cursor.proofs.ReadSteps as laws
 use Rattle.scalar.proofs.Parts.{part-rest}
-use Rattle.cursor.specs.Steps.{cursorOf}
 use borrow.Author.Needs.{needs}
-use Rattle.cursor.proofs.FieldSteps.{rest-none}
 use Rattle.cursor.proofs.reading.remaining.Statement.{statement}
 use Rattle.cursor.proofs.reading.remaining.Tie as tie
 
@@ -10,7 +9,7 @@ slice-aggregate-result : tie.Need-slice-aggregate-result
 slice-aggregate-result c = search needs
 
 returns : tie.Need-returns
-returns c = rest-none (c .before .before .args .key .now) (cursorOf (c .before .before .args .c)) (c .before .if1 .taken)
+returns c = search laws.rest-none
 
 sub-result : tie.Need-sub-result
 sub-result c = search needs
@@ -22,7 +21,7 @@ part-result-end : tie.Need-part-result-end
 part-result-end c = search needs
 
 returns-2 : tie.Need-returns-2
-returns-2 c = part-rest (c .before .before .args .c .at) (c .before .before .args .key .now)
+returns-2 c = search part-rest
 
 pub remaining-spec : {M : Type 1} → statement M
 remaining-spec =

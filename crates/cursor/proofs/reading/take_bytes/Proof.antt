@@ -1,10 +1,6 @@
--- `take_bytes` meets its contract.
-use Prim.Native.Nat.{_+_, _<_, _^_}
-use native.Mathlib.Omega.{arith}
-use Rattle.scalar.specs.Answers.{gotPart}
-use Rattle.cursor.specs.Steps.{cursorOf, usedOf, keyPlace}
+-- The bytes are read at the front of the rest: their place there is one in the key, and scratch is the same.
+use Rattle.cursor.proofs.ReadSteps as laws
 use borrow.Author.Needs.{needs}
-use Rattle.cursor.proofs.FieldSteps.{bytes-fits, bytes-hands}
 use Rattle.cursor.proofs.reading.take_bytes.Statement.{statement}
 use Rattle.cursor.proofs.reading.take_bytes.Tie as tie
 
@@ -15,17 +11,13 @@ get-bytes-requires : tie.Need-get-bytes-requires
 get-bytes-requires c κs = search needs
 
 taken-part-requires : tie.Need-taken-part-requires
-taken-part-requires c κs =
-    let w = bytes-fits (c .before .before .before .before .before .before .before .args .key .now) (cursorOf (c .before .before .before .before .before .before .before .args .c)) (c .before .before .before .before .remaining .result .now) (c .before .before .before .before .remaining .ensures) (c .before .before .before .before .before .before .before .args .scratch .now) (gotPart (c .before .before .get-bytes .result)) (c .before .before .get-bytes .ensures .0) in
-    let h : c .before .before .before .before .before .before .before .args .c .at + usedOf (gotPart (c .before .before .get-bytes .result)) < 2 ^ 64 = omega (arith, w .0) in
-    let k : c .before .before .before .before .before .before .before .args .c .at + keyPlace (gotPart (c .before .before .get-bytes .result)) < 2 ^ 64 = omega (arith, w .1) in
-    (h, k)
+taken-part-requires c κs = search laws.bytes-room
 
 same-length : tie.Need-same-length
 same-length c = search needs
 
 returns : tie.Need-returns
-returns c = bytes-hands (c .before .before .before .before .before .before .before .before .args .key .now) (cursorOf (c .before .before .before .before .before .before .before .before .args .c)) (c .before .before .before .before .before .remaining .result .now) (c .before .before .before .before .before .remaining .ensures) (c .before .before .before .before .before .before .before .before .args .scratch .now) (gotPart (c .before .before .before .get-bytes .result)) _ (c .taken-part .result) (c .taken-part .ensures) (c .before .before .before .get-bytes .ensures .0) (c .before .before .before .get-bytes .ensures .1)
+returns c = search laws.bytes-hands
 
 pub take-bytes-spec : {M : Type 1} → statement M
 take-bytes-spec =

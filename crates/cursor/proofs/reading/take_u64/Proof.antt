@@ -1,11 +1,6 @@
--- `take_u64` meets its contract.
-use mathlib.Core.Path.{_∙_}
-use Prim.Native.Nat.{_+_, _<_, _^_}
-use native.Mathlib.Omega.{arith}
-use Rattle.scalar.specs.Answers.{gotInt}
-use Rattle.cursor.specs.Steps.{cursorOf, usedOf}
+-- The unsigned integer is read at the front of the rest, so what it took ends in the key.
+use Rattle.cursor.proofs.ReadSteps as laws
 use borrow.Author.Needs.{needs}
-use Rattle.cursor.proofs.FieldSteps.{u64-within, u64-taken}
 use Rattle.cursor.proofs.reading.take_u64.Statement.{statement}
 use Rattle.cursor.proofs.reading.take_u64.Tie as tie
 
@@ -15,14 +10,16 @@ remaining-requires c κs = search needs
 get-u64-requires : tie.Need-get-u64-requires
 get-u64-requires c κs = search needs
 
+depth-of-requires : tie.Need-depth-of-requires
+depth-of-requires c κs = search needs
+
 taken-int-requires : tie.Need-taken-int-requires
-taken-int-requires c κs =
-    let w = u64-within (c .before .before .before .args .key .now) (cursorOf (c .before .before .before .args .c)) (c .before .remaining .result .now) (c .before .remaining .ensures) (gotInt (c .get-u64 .result)) (c .get-u64 .ensures) in
-    let h : c .before .before .before .args .c .at + usedOf (gotInt (c .get-u64 .result)) < 2 ^ 64 = omega (arith, w) in
-    h
+taken-int-requires c κs = search laws.u64-room
 
 returns : tie.Need-returns
-returns c = c .taken-int .ensures ∙ u64-taken (c .before .before .before .before .args .key .now) (cursorOf (c .before .before .before .before .args .c)) (c .before .before .remaining .result .now) (c .before .before .remaining .ensures) (gotInt (c .before .get-u64 .result)) (c .before .get-u64 .ensures)
+returns c = search laws.u64-taken
 
 pub take-u64-spec : {M : Type 1} → statement M
-take-u64-spec = tie.close (tie.spec remaining-requires get-u64-requires taken-int-requires returns)
+take-u64-spec =
+    tie.close
+    (tie.spec remaining-requires get-u64-requires depth-of-requires taken-int-requires returns)

@@ -1,8 +1,6 @@
--- `put_bytes` meets its contract.
-use Rattle.scalar.specs.Answers.{putAnswer}
-use Rattle.cursor.specs.Steps.{cursorOf}
+-- What the field answered and left is what the step does, at the depth that stays.
+use Rattle.cursor.proofs.WriteSteps as laws
 use borrow.Author.Needs.{needs}
-use Rattle.cursor.proofs.WriteSteps.{bytes-left}
 use Rattle.cursor.proofs.writing.put_bytes.Statement.{statement}
 use Rattle.cursor.proofs.writing.put_bytes.Tie as tie
 
@@ -19,9 +17,7 @@ same-length : tie.Need-same-length
 same-length c = search needs
 
 returns : tie.Need-returns
-returns c =
-    let a = c .before .before .before .before .before .before .before .before .args in
-    bytes-left (a .buf .now) (cursorOf (a .c)) (a .payload .now) (c .before .depth-of .result) (c .before .depth-of .ensures) (putAnswer (c .before .before .before .before .put-bytes .result)) _ (c .wrote .result) (c .wrote .ensures) (c .before .before .before .before .put-bytes .ensures .0) (c .before .before .before .before .put-bytes .ensures .1)
+returns c = search laws.bytes-left
 
 pub put-bytes-spec : {M : Type 1} → statement M
 put-bytes-spec =

@@ -1,8 +1,6 @@
--- `put_fact_id` meets its contract.
-use Rattle.scalar.specs.Answers.{putAnswer}
-use Rattle.cursor.specs.Steps.{cursorOf}
+-- What the field answered and left is what the step does, at the depth that stays.
+use Rattle.cursor.proofs.WriteSteps as laws
 use borrow.Author.Needs.{needs}
-use Rattle.cursor.proofs.WriteSteps.{id-left}
 use Rattle.cursor.proofs.writing.put_fact_id.Statement.{statement}
 use Rattle.cursor.proofs.writing.put_fact_id.Tie as tie
 
@@ -19,9 +17,7 @@ same-length : tie.Need-same-length
 same-length c = search needs
 
 returns : tie.Need-returns
-returns c =
-    let a = c .before .before .before .before .before .before .before .args in
-    id-left (a .buf .now) (cursorOf (a .c)) (a .raw) (c .before .depth-of .result) (c .before .depth-of .ensures) (putAnswer (c .before .before .before .before .put-fact-id .result)) _ (c .wrote .result) (c .wrote .ensures) (c .before .before .before .before .put-fact-id .ensures .0) (c .before .before .before .before .put-fact-id .ensures .1)
+returns c = search laws.id-left
 
 pub put-fact-id-spec : {M : Type 1} → statement M
 put-fact-id-spec =

@@ -1,8 +1,6 @@
--- `put_i64` meets its contract.
-use Rattle.scalar.specs.Answers.{putAnswer}
-use Rattle.cursor.specs.Steps.{cursorOf}
+-- What the field answered and left is what the step does, at the depth that stays.
+use Rattle.cursor.proofs.WriteSteps as laws
 use borrow.Author.Needs.{needs}
-use Rattle.cursor.proofs.WriteSteps.{i64-left}
 use Rattle.cursor.proofs.writing.put_i64.Statement.{statement}
 use Rattle.cursor.proofs.writing.put_i64.Tie as tie
 
@@ -19,9 +17,7 @@ same-length : tie.Need-same-length
 same-length c = search needs
 
 returns : tie.Need-returns
-returns c =
-    let a = c .before .before .before .before .before .before .before .args in
-    i64-left (a .buf .now) (cursorOf (a .c)) (a .w) (c .before .depth-of .result) (c .before .depth-of .ensures) (putAnswer (c .before .before .before .before .put-i64 .result)) _ (c .wrote .result) (c .wrote .ensures) (c .before .before .before .before .put-i64 .ensures .0) (c .before .before .before .before .put-i64 .ensures .1)
+returns c = search laws.i64-left
 
 pub put-i64-spec : {M : Type 1} → statement M
 put-i64-spec =

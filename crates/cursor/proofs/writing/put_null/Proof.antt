@@ -1,8 +1,6 @@
--- `put_null` meets its contract.
-use Rattle.scalar.specs.Answers.{putAnswer}
-use Rattle.cursor.specs.Steps.{cursorOf}
+-- By the depth: 00 alone, or with its escape.
+use Rattle.cursor.proofs.WriteSteps as laws
 use borrow.Author.Needs.{needs}
-use Rattle.cursor.proofs.WriteSteps.{null-left, null-in-left}
 use Rattle.cursor.proofs.writing.put_null.Statement.{statement}
 use Rattle.cursor.proofs.writing.put_null.Tie as tie
 
@@ -22,9 +20,7 @@ same-length : tie.Need-same-length
 same-length c = search needs
 
 returns : tie.Need-returns
-returns c =
-    let a = c .before .before .before .before .before .before .before .before .before .args in
-    null-left (a .buf .now) (cursorOf (a .c)) (c .before .before .before .before .before .before .before .depth-of .result) (c .before .before .before .before .before .before .before .depth-of .ensures) (c .before .before .before .before .before .before .if1 .taken) (putAnswer (c .before .before .before .put-plain .result)) _ (c .wrote .result) (c .wrote .ensures) (c .before .before .before .put-plain .ensures .0) (c .before .before .before .put-plain .ensures .1)
+returns c = search laws.null-left
 
 slice-aggregate-put-plain-2 : tie.Need-slice-aggregate-put-plain-2
 slice-aggregate-put-plain-2 c = search needs
@@ -39,9 +35,7 @@ same-length-2 : tie.Need-same-length-2
 same-length-2 c = search needs
 
 returns-2 : tie.Need-returns-2
-returns-2 c =
-    let a = c .before .before .before .before .before .before .before .before .before .args in
-    null-in-left (a .buf .now) (cursorOf (a .c)) (c .before .before .before .before .before .before .before .depth-of .result) (c .before .before .before .before .before .before .before .depth-of .ensures) (c .before .before .before .before .before .before .if1 .left) (putAnswer (c .before .before .before .put-plain2 .result)) _ (c .wrote2 .result) (c .wrote2 .ensures) (c .before .before .before .put-plain2 .ensures .0) (c .before .before .before .put-plain2 .ensures .1)
+returns-2 c = search laws.null-in-left
 
 pub put-null-spec : {M : Type 1} → statement M
 put-null-spec =

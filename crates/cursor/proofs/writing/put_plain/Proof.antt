@@ -1,11 +1,7 @@
--- `put_plain` meets its contract.
-use mathlib.Core.Path.{_≡_}
-use Prim.Native.Nat.{_+_}
+-- Room was asked for all the bytes, so all of them are copied or none.
+use Rattle.cursor.proofs.WriteSteps as laws
 use native.Mathlib.Omega.{arith}
-use lib.ListN.{length}
-use Rattle.scalar.proofs.Rooms.{room-ok, put-refused}
 use borrow.Author.Needs.{needs}
-use Rattle.cursor.proofs.WriteSteps.{put-answered}
 use Rattle.cursor.proofs.writing.put_plain.Statement.{statement}
 use Rattle.cursor.proofs.writing.put_plain.Tie as tie
 
@@ -16,13 +12,7 @@ enum-known-end : tie.Need-enum-known-end
 enum-known-end c = search needs
 
 copy-to-requires : tie.Need-copy-to-requires
-copy-to-requires c κs =
-    let a = c .before .before .before .before .before .before .before .args in
-    let d = a .buf .now in
-    let s = a .bytes .now in
-    let n : 0 + length s ≡ length s = omega arith in
-    let fits = room-ok (length d) (a .at) (length s) (rw (c .before .before .end .given .1, n) at (c .before .before .before .before .room .ensures)) in
-    (omega arith, omega arith, omega arith)
+copy-to-requires c κs = (omega arith, omega arith, search laws.plain-room)
 
 enum-known-no : tie.Need-enum-known-no
 enum-known-no c = search needs
@@ -31,20 +21,10 @@ same-length : tie.Need-same-length
 same-length c = search needs
 
 returns : tie.Need-returns
-returns c =
-    let a = c .before .before .before .before .before .before .before .before .before .before .args in
-    let d = a .buf .now in
-    let s = a .bytes .now in
-    let n : 0 + length s ≡ length s = omega arith in
-    put-answered d (a .at) s (rw (c .before .before .before .before .before .end .given .1, n) at (c .before .before .before .before .before .before .before .room .ensures)) (c .before .before .copy-to .ensures)
+returns c = search laws.plain-done
 
 returns-2 : tie.Need-returns-2
-returns-2 c =
-    let a = c .before .before .before .before .before .before .args in
-    let d = a .buf .now in
-    let s = a .bytes .now in
-    let n : 0 + length s ≡ length s = omega arith in
-    put-refused d (a .at) s (rw (c .before .no .given .1, n) at (c .before .before .before .room .ensures))
+returns-2 c = search laws.plain-none
 
 pub put-plain-spec : {M : Type 1} → statement M
 put-plain-spec =
