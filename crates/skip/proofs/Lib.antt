@@ -1,5 +1,5 @@
--- Laws that the proofs of `skip` cite.
+-- Laws that the proofs share, one for each way out of a function.
 pub mod Marks
-pub mod Passing
-pub mod Runs
+pub mod Turns
+pub mod Plain
 pub mod Walking

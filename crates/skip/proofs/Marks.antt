@@ -1,150 +1,197 @@
--- What stands at the front of bytes, by what the code tests.
-use mathlib.Core.Bool.{Bool, true, false, not, _&&_, _||_, and-false}
-use mathlib.Core.Path.{_≡_, refl}
+-- A field by its mark: what each function finds behind it.
+use mathlib.Core.Bool.{Bool, true, false, _||_}
+use mathlib.Core.Path.{_≡_, refl, sym, _∙_}
 use mathlib.Core.List.{List, [], _∷_}
 use Prim.Native.Nat.{ℕ, _+_, _-_, _≤_, _<_}
 use native.Mathlib.Omega.{arith}
 use lib.Dec.{eqb, ltb, leb}
-use lib.ListN.{length, getD, drop, drop-of-length-le}
-use borrow.Author.Tests.{eq-eqb, ne-eqb, ltb-true, ltb-false, lt-ltb, le-ltb, le-leb, lt-leb}
-use Rattle.format.specs.Encode.{maxDepth}
-use Rattle.format.specs.Read.{Read, startsFF, endsHere}
-use Rattle.format.specs.Skip.{passBytes, passField}
-use Rattle.scalar.proofs.Chunks.{drop-one}
-use Rattle.skip.specs.Tokens.{passRun, field, numberMark, runMark, Width}
+use lib.ListN.{length, getD, drop}
+use borrow.Author.Tests.{ne-eqb, eqb-true, eqb-false, lt-ltb, le-ltb, ltb-true, ltb-false, le-leb, lt-leb, leb-true, leb-false}
+use Rattle.format.specs.Answer.{if, ok, refused, andThen}
+use Rattle.format.specs.Lengths.{lengthIn}
+use Rattle.format.specs.declared.Length.{Length}
+use Rattle.format.specs.Read.{Read, thenRead, getUint, startsFF}
+use Rattle.format.specs.Fields.{takenFrom}
+use Rattle.format.specs.Skip.{passBytes, passField, endOf}
+use Rattle.format.specs.Cursor.{nullAt, tagAt, unionMark}
+use Rattle.scalar.specs.Answers.{gotInt}
+use Rattle.scalar.specs.Numbers.{markWidth, unjudged}
+use Rattle.scalar.specs.declared.ints.GotInt.{GotInt}
+use Rattle.scalar.proofs.Cases.{by-test}
+use Rattle.scalar.proofs.Reading.{taken-bad}
+use Rattle.scalar.proofs.Integers.{big-short}
+use Rattle.scalar.proofs.Unjudged.{width-inside, inside-width}
+use Rattle.skip.specs.Tokens.{field, passRun, numberMark, runMark, Begins, Left}
 
--- ---- the byte behind
+-- ---- integers, references and runs
 
-pub follows-none : (s : List ℕ) (at : ℕ) → at < length s → length s - at < 2 → startsFF (drop (at + 1) s) ≡ false
-unfolding startsFF
-follows-none s at h l = let none : length s ≤ at + 1 = omega arith in rw (drop-of-length-le s none)
+module _ (escape : Bool) (depth m : ℕ) (s : List ℕ) where
+  mark-negative : 0x40 ≤ m → m < 0x48 → passField escape depth m s ≡ passBytes (0x48 - m) depth s
+  unfolding passField
+  mark-negative l h =
+      rw (
+        ne-eqb m 0x00 (omega arith),
+        ne-eqb m 0x21 (omega arith),
+        ne-eqb m 0x53 (omega arith),
+        ne-eqb m 0x22 (omega arith),
+        le-ltb m 0x40 l,
+        lt-ltb m 0x48 h,
+      )
 
-pub follows-some : (s : List ℕ) (at : ℕ) → at < length s → 2 ≤ length s - at → startsFF (drop (at + 1) s) ≡ eqb (getD s (at + 1) 0) 0xFF
-unfolding startsFF
-follows-some s at h l = rw (drop-one s (at + 1) (omega arith))
+  mark-positive : 0x48 ≤ m → m ≤ 0x50 → passField escape depth m s ≡ passBytes (m - 0x48) depth s
+  unfolding passField
+  mark-positive l h =
+      rw (
+        ne-eqb m 0x00 (omega arith),
+        ne-eqb m 0x21 (omega arith),
+        ne-eqb m 0x53 (omega arith),
+        ne-eqb m 0x22 (omega arith),
+        le-ltb m 0x40 (omega arith),
+        le-ltb m 0x48 l,
+        le-leb m 0x50 h,
+      )
 
--- an escape has its FF inside
-pub follows-inside : (s : List ℕ) (at : ℕ) → at < length s → startsFF (drop (at + 1) s) ≡ true → at + 2 ≤ length s
-follows-inside s at h e = go (ltb (length s) (at + 2)) refl
-  where
-    go : (t : Bool) → ltb (length s) (at + 2) ≡ t → at + 2 ≤ length s
-    go true l = let m = ltb-true (length s) (at + 2) l in let n = follows-none s at h (omega arith) in let y : _≡_ {A = ℕ} 0 1 = cc in absurd (omega arith)
-    go false l = ltb-false (length s) (at + 2) l
+  mark-reference : m ≡ 0x51 → passField escape depth m s ≡ passBytes 8 depth s
+  unfolding passField
+  mark-reference e = rw e
 
--- ---- a group's end
+  -- as many bytes are passed as the mark says
+  pub number-passes : markWidth m ≤ 8 → passField escape depth m s ≡ passBytes (markWidth m) depth s
+  number-passes h =
+      let k = inside-width m h in
+      by-test (ltb m 0x48) (λ t. rw t (mark-negative (k .0) (ltb-true m 0x48 t)))
+      (λ t. by-test (eqb m 0x51) (λ u. rw (t, u) (mark-reference (eqb-true m 0x51 u)))
+      (λ u. let y = eqb-false m 0x51 u in rw (t, u) (mark-positive (ltb-false m 0x48 t) (omega arith))))
 
-pub ends-none : (s : List ℕ) → length s ≡ 0 → endsHere s ≡ false
-unfolding endsHere
-ends-none [] h = refl
-ends-none (b ∷ s) h = absurd (omega arith)
+  pub run-passes : runMark m ≡ true → passField escape depth m s ≡ passRun depth s
+  unfolding passField
+  run-passes e = rw (ne-eqb m 0 (λ z. no-run (rw z at e)), e)
+    where
+      no-run : false ≡ true → ⊥
+      no-run y = let z : _≡_ {A = ℕ} 0 1 = cc in omega arith
 
-pub ends-other : (s : List ℕ) → (getD s 0 0 ≡ 0 → ⊥) → endsHere s ≡ false
-unfolding endsHere
-ends-other [] h = refl
-ends-other (b ∷ s) h = rw (ne-eqb b 0 h)
+-- a number whose bytes are cut short
+pub number-short : (escape : Bool) (depth : ℕ) (s : List ℕ) → unjudged s ≡ 0 → numberMark (getD s 0 0) ≡ true → field escape depth s ≡ Read.bad 1 0
+unfolding unjudged field
+number-short escape depth [] z k = refl
+number-short escape depth (m ∷ s) z k =
+    by-test (leb (markWidth m) (length s)) (λ u. let q : markWidth m + 1 ≡ 0 = rw (k, u) at z in absurd (omega arith))
+    (λ u. number-passes escape depth m s (leb-true (markWidth m) 8 k) ∙ rw (big-short (markWidth m) s (leb-false (markWidth m) (length s) u)))
 
-pub ends-zero : (s : List ℕ) → 0 < length s → getD s 0 0 ≡ 0 → endsHere s ≡ not (startsFF (drop 1 s))
-unfolding endsHere
-ends-zero [] l h = absurd (omega arith)
-ends-zero (b ∷ s) l h = rw (eq-eqb b 0 h)
+-- ---- is it the mark of a number, of a run?
 
--- ---- a field by its mark
+module _ (m : ℕ) where
+  pub below-number : m < 0x40 → false ≡ numberMark m
+  below-number h = by-test (leb (markWidth m) 8) (λ t. let l = inside-width m (leb-true (markWidth m) 8 t) in absurd (omega arith)) (λ t. sym t)
+
+  pub above-number : 0x40 ≤ m → leb m 0x51 ≡ numberMark m
+  above-number l =
+      by-test (leb m 0x51) (λ t. rw (t, le-leb (markWidth m) 8 (width-inside m l (leb-true m 0x51 t))))
+      (λ t. by-test (leb (markWidth m) 8)
+      (λ u. let k = inside-width m (leb-true (markWidth m) 8 u) in let y = leb-false m 0x51 t in absurd (omega arith))
+      (λ u. rw (t, u)))
+
+pub none-run : (s : List ℕ) → length s ≡ 0 → false ≡ runMark (getD s 0 0)
+none-run [] h = refl
+none-run (m ∷ s) h = absurd (omega arith)
+
+pub string-run : (m : ℕ) → m ≡ 0x21 → true ≡ runMark m
+string-run m e = rw e
+
+pub bytes-run : (m : ℕ) → (m ≡ 0x21 → ⊥) → eqb m 0x53 ≡ runMark m
+bytes-run m h = rw (ne-eqb m 0x21 h)
+
+-- ---- any other field
+
+pub due-required : (escape : Bool) (depth : ℕ) → escape ≡ true → true ≡ (escape || ltb 0 depth)
+due-required escape depth h = rw h
+
+pub due-inside : (escape : Bool) (depth : ℕ) → escape ≡ false → ltb 0 depth ≡ (escape || ltb 0 depth)
+due-inside escape depth h = rw h
 
 module _ (escape : Bool) (depth : ℕ) where
-  pub field-none : (s : List ℕ) → length s ≡ 0 → field escape depth s ≡ Read.bad 1 0
+  field-known : (s : List ℕ) (m : ℕ) → Begins s m → field escape depth s ≡ passField escape depth m (drop 1 s)
   unfolding field
-  field-none [] h = refl
-  field-none (m ∷ s) h = absurd (omega arith)
+  field-known [] m b = let z = b .some in absurd (omega arith)
+  field-known (x ∷ s) m b = rw (b .first)
 
-  pub field-some : (s : List ℕ) → 0 < length s → field escape depth s ≡ passField escape depth (getD s 0 0) (drop 1 s)
+  -- a null: FF is due or not
+  null-read : (t : List ℕ) (q : Bool)
+      → takenFrom (0 ∷ t) (if q (if (startsFF t) (Read.got depth (drop 1 t)) (Read.bad 3 0)) (Read.got depth t))
+      ≡ andThen (endOf (0 ∷ t) (nullAt (if q 1 0) (0 ∷ t))) (λ n. ok (record { value = depth; used = n }))
+  null-read t true = by-test (startsFF t) (λ e. rw e) (λ e. rw e)
+  null-read t false = refl
+
+  null-field : (s : List ℕ) → Begins s 0x00 → (q : Bool) → q ≡ (escape || ltb 0 depth)
+      → takenFrom s (field escape depth s) ≡ andThen (endOf s (nullAt (if q 1 0) s)) (λ n. ok (record { value = depth; used = n }))
+  unfolding field passField
+  null-field [] b q e = let z = b .some in absurd (omega arith)
+  null-field (x ∷ s) b q e = rw (b .first, ← e) (null-read s q)
+
+  module _ (s : List ℕ) (b : Begins s 0x00) (q : Bool) (e : q ≡ (escape || ltb 0 depth)) (g : Length) (p : lengthIn g ≡ endOf s (nullAt (if q 1 0) s)) where
+    pub null-passed : (n : ℕ) → g ≡ Length.Done n → ok (record { value = depth; used = n }) ≡ takenFrom s (field escape depth s)
+    null-passed n h = sym (null-field s b q e ∙ rw (← p, h))
+
+    pub null-refused : (n d : ℕ) → g ≡ Length.Refused n d → refused n d ≡ takenFrom s (field escape depth s)
+    null-refused n d h = sym (null-field s b q e ∙ rw (← p, h))
+
+  -- a union: its depth, then its discriminant
+  union-read : (s : List ℕ) → depth < 256 → (x : Read ℕ)
+      → takenFrom s (if (ltb depth 256) (thenRead x (λ d rest. Read.got (depth + 1) rest)) (Read.bad 6 0))
+      ≡ andThen (takenFrom s (tagAt depth x)) (λ t. ok (record { value = depth + 1; used = t .used }))
+  union-read s h (Read.got v r) = rw (lt-ltb depth 256 h)
+  union-read s h (Read.bad n d) = rw (lt-ltb depth 256 h)
+
+  union-field : (s : List ℕ) → Begins s 0x52 → depth < 256
+      → takenFrom s (field escape depth s) ≡ andThen (takenFrom s (unionMark depth s)) (λ t. ok (record { value = depth + 1; used = t .used }))
+  unfolding field passField
+  union-field [] b h = let z = b .some in absurd (omega arith)
+  union-field (x ∷ s) b h = rw (b .first) (union-read (0x52 ∷ s) h (getUint s))
+
+  module _ (s : List ℕ) (b : Begins s 0x52) where
+    pub union-deep : 256 ≤ depth → refused 6 0 ≡ takenFrom s (field escape depth s)
+    unfolding passField
+    union-deep h = rw (field-known s 0x52 b, le-ltb depth 256 h)
+
+    module _ (h : depth < 256) (g : GotInt) (p : gotInt g ≡ takenFrom s (unionMark depth s)) where
+      pub union-passed : (v n : ℕ) → g ≡ GotInt.Value v n → ok (record { value = depth + 1; used = n }) ≡ takenFrom s (field escape depth s)
+      union-passed v n e = sym (union-field s b h ∙ rw (← p, e))
+
+      pub union-refused : (n d : ℕ) → g ≡ GotInt.Refused n d → refused n d ≡ takenFrom s (field escape depth s)
+      union-refused n d e = sym (union-field s b h ∙ rw (← p, e))
+
+  -- no byte
+  pub left-none : (s : List ℕ) → length s ≡ 0 → refused 1 0 ≡ takenFrom s (field escape depth s)
   unfolding field
-  field-some [] h = absurd (omega arith)
-  field-some (m ∷ s) h = refl
+  left-none [] h = refl
+  left-none (m ∷ s) h = absurd (omega arith)
 
-  pub field-known : (s : List ℕ) (m : ℕ) → 0 < length s → getD s 0 0 ≡ m → field escape depth s ≡ passField escape depth m (drop 1 s)
-  field-known s m h e = rw (← e) (field-some s h)
+  module _ (s : List ℕ) (l : length s ≡ 0 → ⊥) where
+    pub begins : (m : ℕ) → getD s 0 0 ≡ m → Begins s m
+    begins m e = record { some = omega arith; first = e }
 
-  module _ (m : ℕ) (s : List ℕ) where
-    pub mark-negative : 0x40 ≤ m → m < 0x48 → passField escape depth m s ≡ passBytes (0x48 - m) depth s
-    unfolding passField
-    mark-negative l h =
-        rw (
-          ne-eqb m 0x00 (omega arith),
-          ne-eqb m 0x21 (omega arith),
-          ne-eqb m 0x53 (omega arith),
-          ne-eqb m 0x22 (omega arith),
-          le-ltb m 0x40 l,
-          lt-ltb m 0x48 h,
-        )
+    module _ (h : Left depth s) where
+      -- a record that is too deep, a number cut short
+      pub left-deep : getD s 0 0 ≡ 0x22 → refused 6 0 ≡ takenFrom s (field escape depth s)
+      unfolding passField
+      left-deep e = rw (field-known s 0x22 (begins 0x22 e), le-ltb depth 256 (h .deep e))
 
-    pub mark-positive : 0x48 ≤ m → m ≤ 0x50 → passField escape depth m s ≡ passBytes (m - 0x48) depth s
-    unfolding passField
-    mark-positive l h =
-        rw (
-          ne-eqb m 0x00 (omega arith),
-          ne-eqb m 0x21 (omega arith),
-          ne-eqb m 0x53 (omega arith),
-          ne-eqb m 0x22 (omega arith),
-          le-ltb m 0x40 (omega arith),
-          le-ltb m 0x48 l,
-          le-leb m 0x50 h,
-        )
+      pub left-cut : {q : Bool} → q ≡ numberMark (getD s 0 0) → q ≡ true → refused 1 0 ≡ takenFrom s (field escape depth s)
+      left-cut e t = taken-bad s (number-short escape depth s (h .short) (sym e ∙ t))
 
-  -- a record too deep
-  pub field-deep : (s : List ℕ) → 0 < length s → getD s 0 0 ≡ 0x22 → maxDepth ≤ depth → field escape depth s ≡ Read.bad 6 0
-  unfolding passField
-  field-deep s h e d = rw (field-known s 0x22 h e, le-ltb depth 256 d)
+      -- any other mark
+      module _ (u : getD s 0 0 ≡ 0x52 → ⊥) (n : getD s 0 0 ≡ 0x00 → ⊥) (r : getD s 0 0 ≡ 0x22 → ⊥) where
+        other : (m : ℕ) → getD s 0 0 ≡ m → numberMark m ≡ false → passField escape depth m (drop 1 s) ≡ Read.bad 2 m
+        unfolding passField
+        other m e f =
+            rw (ne-eqb m 0x00 (λ y. n (e ∙ y)), (rw e at (h .runless)), ne-eqb m 0x22 (λ y. r (e ∙ y)))
+            (by-test (ltb m 0x40) (λ t. rw t)
+            (λ t. let a = ltb-false m 0x40 t in
+            let w : 0x51 < m = above m a f in
+            rw (t, le-ltb m 0x48 (omega arith), lt-leb m 0x50 (omega arith), ne-eqb m 0x51 (λ y. omega arith), ne-eqb m 0x52 (λ y. u (e ∙ y)))))
+          where
+            above : (m : ℕ) → 0x40 ≤ m → numberMark m ≡ false → 0x51 < m
+            above m l f = by-test (leb m 0x51) (λ t. absurd (omega (arith, width-inside m l (leb-true m 0x51 t), leb-false (markWidth m) 8 f))) (λ t. leb-false m 0x51 t)
 
-  -- no mark
-  module _ (s : List ℕ) (some : 0 < length s) where
-    pub field-below : getD s 0 0 < 0x40 → (getD s 0 0 ≡ 0x00 → ⊥) → (getD s 0 0 ≡ 0x21 → ⊥) → (getD s 0 0 ≡ 0x22 → ⊥) → field escape depth s ≡ Read.bad 2 (getD s 0 0)
-    unfolding passField
-    field-below h a b c =
-        let m = getD s 0 0 in
-        rw (field-some s some, ne-eqb m 0x00 a, ne-eqb m 0x21 b, ne-eqb m 0x53 (omega arith), ne-eqb m 0x22 c, lt-ltb m 0x40 h)
-
-    pub field-above : 0x51 < getD s 0 0 → (getD s 0 0 ≡ 0x52 → ⊥) → (getD s 0 0 ≡ 0x53 → ⊥) → field escape depth s ≡ Read.bad 2 (getD s 0 0)
-    unfolding passField
-    field-above h b c =
-        let m = getD s 0 0 in
-        rw (
-          field-some s some,
-          ne-eqb m 0x00 (omega arith),
-          ne-eqb m 0x21 (omega arith),
-          ne-eqb m 0x53 c,
-          ne-eqb m 0x22 (omega arith),
-          le-ltb m 0x40 (omega arith),
-          le-ltb m 0x48 (omega arith),
-          lt-leb m 0x50 (omega arith),
-          ne-eqb m 0x51 (λ z. omega arith),
-          ne-eqb m 0x52 b,
-        )
-
--- ---- plain fields
-
--- the tests of another mark
-pub width-below : (m : ℕ) → m < 0x40 → Width m 9
-width-below m h = record { some = λ l. absurd (omega arith); passes = λ l. absurd (omega arith); other = λ l. rw (lt-leb 0x40 m h) }
-
-pub width-above : (m : ℕ) → 0x51 < m → Width m 9
-width-above m h = record { some = λ l. absurd (omega arith); passes = λ l. absurd (omega arith); other = λ l. rw (lt-leb m 0x51 h) (and-false (leb 0x40 m)) }
-
-pub width-negative : (m : ℕ) → 0x40 ≤ m → m < 0x48 → Width m (0x48 - m)
-width-negative m l h = record { some = λ _ z. omega arith; passes = λ _ escape depth s. mark-negative escape depth m s l h; other = λ k. absurd (omega arith) }
-
-pub width-positive : (m : ℕ) → 0x48 ≤ m → m ≤ 0x50 → Width m (m - 0x48)
-width-positive m l h = record { some = λ _ z. omega arith; passes = λ _ escape depth s. mark-positive escape depth m s l h; other = λ k. absurd (omega arith) }
-
-pub width-reference : Width 0x51 8
-unfolding passField
-width-reference = record { some = λ _ z. omega arith; passes = λ _ escape depth s. refl; other = λ k. absurd (omega arith) }
-
-pub run-some : (m : ℕ) → runMark m ≡ true → m ≡ 0 → ⊥
-run-some m e z = let k : false ≡ true = (rw z at e) in let y : _≡_ {A = ℕ} 0 1 = cc in absurd (omega arith)
-
-pub run-mark : (escape : Bool) (depth m : ℕ) (s : List ℕ) → runMark m ≡ true → passField escape depth m s ≡ passRun depth s
-unfolding passField
-run-mark escape depth m s e = rw (ne-eqb m 0 (run-some m e), e)
-
-pub number-plain : (m : ℕ) → 0x40 ≤ m → m ≤ 0x51 → (numberMark m || runMark m) ≡ true
-number-plain m l h = rw (le-leb 0x40 m l, le-leb m 0x51 h)
+        pub left-other : {q : Bool} → q ≡ numberMark (getD s 0 0) → q ≡ false → {v : ℕ} → v ≡ getD s 0 0 → refused 2 v ≡ takenFrom s (field escape depth s)
+        left-other e f w = rw w (taken-bad s (field-known s (getD s 0 0) (begins (getD s 0 0) refl) ∙ other (getD s 0 0) refl (sym e ∙ f)))

@@ -1,24 +1,28 @@
-use borrow.Author.Tests.{lt-ltb, le-ltb}
-use Rattle.skip.proofs.Passing.{mark-passed}
+-- What the null took is what the field takes, at the depth that stays.
+use Rattle.skip.proofs.Marks as laws
 use borrow.Author.Needs.{needs}
 use Rattle.skip.proofs.null_token.Statement.{statement}
 use Rattle.skip.proofs.null_token.Tie as tie
 
-escaped-null-requires : tie.Need-escaped-null-requires
-escaped-null-requires c κs = search needs
+escape-due-requires : tie.Need-escape-due-requires
+escape-due-requires c κs = search needs
+
+null-requires : tie.Need-null-requires
+null-requires c κs = search needs
+
+enum-known-n : tie.Need-enum-known-n
+enum-known-n c = search needs
+
+enum-known-no : tie.Need-enum-known-no
+enum-known-no c = search needs
 
 returns : tie.Need-returns
-returns c = rw (c .before .if1 .taken) (c .escaped-null .ensures)
-
-escaped-null-requires-2 : tie.Need-escaped-null-requires-2
-escaped-null-requires-2 c κs = search needs
+returns c = search laws.null-passed
 
 returns-2 : tie.Need-returns-2
-returns-2 c = rw (c .before .before .if1 .left, lt-ltb 0 (c .before .before .before .before .args .depth) (c .before .if2 .taken)) (c .escaped-null2 .ensures)
-
-returns-3 : tie.Need-returns-3
-returns-3 c = rw (c .before .if1 .left, le-ltb 0 (c .before .before .before .args .depth) (c .if2 .left)) (mark-passed (c .before .before .before .args .rest .now) (c .before .before .before .args .depth) (c .before .before .before .pre))
+returns-2 c = search laws.null-refused
 
 pub null-token-spec : {M : Type 1} → statement M
 null-token-spec =
-    tie.close (tie.spec escaped-null-requires returns escaped-null-requires-2 returns-2 returns-3)
+    tie.close
+    (tie.spec escape-due-requires null-requires enum-known-n enum-known-no returns returns-2)

@@ -1,81 +1,57 @@
+-- The invariant of both loops: what is left of the walk at the place is the walk from the start (`Walk`). What falls is the rest of the key.
 use mathlib.Core.Path.{sym, _∙_}
 use Prim.Native.Nat.{_-_, _≤_}
 use native.Mathlib.Omega.{arith}
-use lib.ListN.{length, drop}
-use Rattle.scalar.proofs.Parts.{part-rest}
-use Rattle.skip.proofs.Walking.{ends-open, turn-closes, turn-took, turn-refuses, Walk, walk-start, walk-past, walk-bad, walk-within, walk-on, walk-end, plain-took, opens-low, turn-opens, left}
+use lib.ListN.{length}
 use borrow.Author.Needs.{needs}
+use Rattle.skip.proofs.Walking as laws
 use Rattle.skip.proofs.skip.Statement.{statement}
 use Rattle.skip.proofs.skip.Tie as tie
 
 abbrev Inv-loop : tie.InvT-loop
-Inv-loop bytes start require-escape-null i₀ depth i = (i₀ ≤ i) × Walk require-escape-null bytes start i depth
+Inv-loop bytes start require-escape-null i₀ depth i = (i₀ ≤ i) × laws.Walk require-escape-null bytes start i depth
 
 abbrev μ-loop : tie.MeasureT-loop
 μ-loop bytes start require-escape-null i₀ depth i = length bytes - i
 
 abbrev Inv-groups : tie.InvT-groups
-Inv-groups bytes start require-escape-null i₀ depth₀ i depth = Walk require-escape-null bytes start i depth
+Inv-groups bytes start require-escape-null i₀ depth₀ i depth = laws.Walk require-escape-null bytes start i depth
 
 abbrev μ-groups : tie.MeasureT-groups
 μ-groups bytes start require-escape-null i₀ depth₀ i depth = length bytes - i
 
 returns : tie.Need-returns Inv-loop μ-loop Inv-groups μ-groups
-returns c = walk-past _ _ _ (c .if1 .taken)
+returns c = search laws.walk-past
 
 groups-holds : tie.Need-groups-holds Inv-loop μ-loop Inv-groups μ-groups
-groups-holds c = walk-start _ _ _ (c .if1 .left)
+groups-holds c = search laws.walk-start
 
 loop-holds : tie.Need-loop-holds Inv-loop μ-loop Inv-groups μ-groups
-loop-holds c = (omega arith, c .groups .inv)
+loop-holds c = search needs
 
-sub-plain-end : tie.Need-sub-plain-end Inv-loop μ-loop Inv-groups μ-groups
-sub-plain-end c = omega (arith, (c .loop .inv .1) .inside)
+sub-unjudged-len : tie.Need-sub-unjudged-len Inv-loop μ-loop Inv-groups μ-groups
+sub-unjudged-len c = search needs
 
-part-plain-end-start : tie.Need-part-plain-end-start Inv-loop μ-loop Inv-groups μ-groups
-part-plain-end-start c = search needs
+part-unjudged-len-start : tie.Need-part-unjudged-len-start Inv-loop μ-loop Inv-groups μ-groups
+part-unjudged-len-start c = search needs
 
-part-plain-end-end : tie.Need-part-plain-end-end Inv-loop μ-loop Inv-groups μ-groups
-part-plain-end-end c = search needs
+part-unjudged-len-end : tie.Need-part-unjudged-len-end Inv-loop μ-loop Inv-groups μ-groups
+part-unjudged-len-end c = search needs
 
-plain-end-requires : tie.Need-plain-end-requires Inv-loop μ-loop Inv-groups μ-groups
-plain-end-requires c κs = search needs
+unjudged-len-requires : tie.Need-unjudged-len-requires Inv-loop μ-loop Inv-groups μ-groups
+unjudged-len-requires c κs = search needs
 
 add-i : tie.Need-add-i Inv-loop μ-loop Inv-groups μ-groups
-add-i c = omega (arith, walk-within (c .before .before .before .loop .inv .1) (plain-took (c .before .before .before .before .before .before .before .args .require-escape-null) (c .before .before .before .before .groups .depth) (rw (part-rest (c .before .before .before .loop .i) (c .before .before .before .before .before .before .before .args .bytes .now)) at (c .before .plain-end .ensures)) (c .if2 .left)))
+add-i c = search laws.number-room
 
 loop-less : tie.Need-loop-less Inv-loop μ-loop Inv-groups μ-groups
-loop-less c = omega (arith, walk-within (c .before .before .before .before .loop .inv .1) (plain-took (c .before .before .before .before .before .before .before .before .args .require-escape-null) (c .before .before .before .before .before .groups .depth) (rw (part-rest (c .before .before .before .before .loop .i) (c .before .before .before .before .before .before .before .before .args .bytes .now)) at (c .before .before .plain-end .ensures)) (c .before .if2 .left)))
+loop-less c = search laws.number-less
 
 loop-again : tie.Need-loop-again Inv-loop μ-loop Inv-groups μ-groups
-loop-again c = (omega (arith, c .before .before .before .before .loop .inv .0), walk-on (c .before .before .before .before .loop .inv .1) (plain-took (c .before .before .before .before .before .before .before .before .args .require-escape-null) (c .before .before .before .before .before .groups .depth) (rw (part-rest (c .before .before .before .before .loop .i) (c .before .before .before .before .before .before .before .before .args .bytes .now)) at (c .before .before .plain-end .ensures)) (c .before .if2 .left)) (c .if3 .left))
-
-sub-record-opens : tie.Need-sub-record-opens Inv-loop μ-loop Inv-groups μ-groups
-sub-record-opens c = omega (arith, (c .before .before .before .loop .inv .1) .inside)
-
-part-record-opens-start : tie.Need-part-record-opens-start Inv-loop μ-loop Inv-groups μ-groups
-part-record-opens-start c = search needs
-
-part-record-opens-end : tie.Need-part-record-opens-end Inv-loop μ-loop Inv-groups μ-groups
-part-record-opens-end c = search needs
-
-record-opens-requires : tie.Need-record-opens-requires Inv-loop μ-loop Inv-groups μ-groups
-record-opens-requires c κs = search needs
-
-add-i-2 : tie.Need-add-i-2 Inv-loop μ-loop Inv-groups μ-groups
-add-i-2 c = omega (arith, walk-within (c .before .before .before .before .before .before .loop .inv .1) (turn-opens (c .before .before .before .before .before .before .before .before .before .before .args .require-escape-null) (c .before .before .before .before .before .before .before .groups .depth) (drop (c .before .before .before .before .before .before .loop .i) (c .before .before .before .before .before .before .before .before .before .before .args .bytes .now)) (sym (rw (part-rest (c .before .before .before .before .before .before .loop .i) (c .before .before .before .before .before .before .before .before .before .before .args .bytes .now)) at (c .before .record-opens .ensures)) ∙ c .if4 .taken)))
-
-add-depth : tie.Need-add-depth Inv-loop μ-loop Inv-groups μ-groups
-add-depth c = omega (arith, opens-low (c .before .before .before .before .before .before .before .groups .depth) (drop (c .before .before .before .before .before .before .loop .i) (c .before .before .before .before .before .before .before .before .before .before .args .bytes .now)) (sym (rw (part-rest (c .before .before .before .before .before .before .loop .i) (c .before .before .before .before .before .before .before .before .before .before .args .bytes .now)) at (c .before .record-opens .ensures)) ∙ c .if4 .taken))
-
-groups-less : tie.Need-groups-less Inv-loop μ-loop Inv-groups μ-groups
-groups-less c = omega (arith, c .before .before .before .before .before .before .loop .inv .0, walk-within (c .before .before .before .before .before .before .loop .inv .1) (turn-opens (c .before .before .before .before .before .before .before .before .before .before .args .require-escape-null) (c .before .before .before .before .before .before .before .groups .depth) (drop (c .before .before .before .before .before .before .loop .i) (c .before .before .before .before .before .before .before .before .before .before .args .bytes .now)) (sym (rw (part-rest (c .before .before .before .before .before .before .loop .i) (c .before .before .before .before .before .before .before .before .before .before .args .bytes .now)) at (c .before .record-opens .ensures)) ∙ c .if4 .taken)))
-
-groups-again : tie.Need-groups-again Inv-loop μ-loop Inv-groups μ-groups
-groups-again c = walk-on (c .before .before .before .before .before .before .loop .inv .1) (turn-opens (c .before .before .before .before .before .before .before .before .before .before .args .require-escape-null) (c .before .before .before .before .before .before .before .groups .depth) (drop (c .before .before .before .before .before .before .loop .i) (c .before .before .before .before .before .before .before .before .before .before .args .bytes .now)) (sym (rw (part-rest (c .before .before .before .before .before .before .loop .i) (c .before .before .before .before .before .before .before .before .before .before .args .bytes .now)) at (c .before .record-opens .ensures)) ∙ c .if4 .taken)) (λ z. omega arith)
+loop-again c = (omega arith, search laws.number-on)
 
 sub-group-ends : tie.Need-sub-group-ends Inv-loop μ-loop Inv-groups μ-groups
-sub-group-ends c = omega (arith, (c .before .before .before .before .before .before .loop .inv .1) .inside)
+sub-group-ends c = search needs
 
 part-group-ends-start : tie.Need-part-group-ends-start Inv-loop μ-loop Inv-groups μ-groups
 part-group-ends-start c = search needs
@@ -86,20 +62,97 @@ part-group-ends-end c = search needs
 group-ends-requires : tie.Need-group-ends-requires Inv-loop μ-loop Inv-groups μ-groups
 group-ends-requires c κs = search needs
 
-add-i-3 : tie.Need-add-i-3 Inv-loop μ-loop Inv-groups μ-groups
-add-i-3 c = omega (arith, walk-within (c .before .before .before .before .before .before .before .before .before .loop .inv .1) (turn-closes (c .before .before .before .before .before .before .before .before .before .before .before .before .before .args .require-escape-null) (c .before .before .before .before .before .before .before .before .before .before .groups .depth) (drop (c .before .before .before .before .before .before .before .before .before .loop .i) (c .before .before .before .before .before .before .before .before .before .before .before .before .before .args .bytes .now)) (sym (rw (part-rest (c .before .before .before .before .before .before .before .before .before .loop .i) (c .before .before .before .before .before .before .before .before .before .before .before .before .before .args .bytes .now)) at (c .before .group-ends .ensures)) ∙ c .if5 .taken)))
+add-i-2 : tie.Need-add-i-2 Inv-loop μ-loop Inv-groups μ-groups
+add-i-2 c = search laws.ends-room
 
 sub-depth : tie.Need-sub-depth Inv-loop μ-loop Inv-groups μ-groups
-sub-depth c = omega (arith, ends-open (c .before .before .before .before .before .before .before .before .before .before .groups .depth) (drop (c .before .before .before .before .before .before .before .before .before .loop .i) (c .before .before .before .before .before .before .before .before .before .before .before .before .before .args .bytes .now)) (sym (rw (part-rest (c .before .before .before .before .before .before .before .before .before .loop .i) (c .before .before .before .before .before .before .before .before .before .before .before .before .before .args .bytes .now)) at (c .before .group-ends .ensures)) ∙ c .if5 .taken))
+sub-depth c = laws.ends-deep _ _ (c .before .group-ends .ensures) (c .if4 .taken)
+
+groups-less : tie.Need-groups-less Inv-loop μ-loop Inv-groups μ-groups
+groups-less c = search laws.ends-less
+
+groups-again : tie.Need-groups-again Inv-loop μ-loop Inv-groups μ-groups
+groups-again c = search laws.ends-on
+
+sub-record-opens : tie.Need-sub-record-opens Inv-loop μ-loop Inv-groups μ-groups
+sub-record-opens c = search needs
+
+part-record-opens-start : tie.Need-part-record-opens-start Inv-loop μ-loop Inv-groups μ-groups
+part-record-opens-start c = search needs
+
+part-record-opens-end : tie.Need-part-record-opens-end Inv-loop μ-loop Inv-groups μ-groups
+part-record-opens-end c = search needs
+
+record-opens-requires : tie.Need-record-opens-requires Inv-loop μ-loop Inv-groups μ-groups
+record-opens-requires c κs = search needs
+
+add-i-3 : tie.Need-add-i-3 Inv-loop μ-loop Inv-groups μ-groups
+add-i-3 c = search laws.opens-room
+
+add-depth : tie.Need-add-depth Inv-loop μ-loop Inv-groups μ-groups
+add-depth c =
+    let p = c .before .record-opens .ensures in
+    let h = c .if6 .taken in
+    record { fits = search laws.opens-deep }
 
 groups-less-2 : tie.Need-groups-less-2 Inv-loop μ-loop Inv-groups μ-groups
-groups-less-2 c = omega (arith, c .before .before .before .before .before .before .before .before .before .before .loop .inv .0, walk-within (c .before .before .before .before .before .before .before .before .before .before .loop .inv .1) (turn-closes (c .before .before .before .before .before .before .before .before .before .before .before .before .before .before .args .require-escape-null) (c .before .before .before .before .before .before .before .before .before .before .before .groups .depth) (drop (c .before .before .before .before .before .before .before .before .before .before .loop .i) (c .before .before .before .before .before .before .before .before .before .before .before .before .before .before .args .bytes .now)) (sym (rw (part-rest (c .before .before .before .before .before .before .before .before .before .before .loop .i) (c .before .before .before .before .before .before .before .before .before .before .before .before .before .before .args .bytes .now)) at (c .before .before .group-ends .ensures)) ∙ c .before .if5 .taken)))
+groups-less-2 c = search laws.opens-less
 
 groups-again-2 : tie.Need-groups-again-2 Inv-loop μ-loop Inv-groups μ-groups
-groups-again-2 c = walk-on (c .before .before .before .before .before .before .before .before .before .before .loop .inv .1) (turn-closes (c .before .before .before .before .before .before .before .before .before .before .before .before .before .before .args .require-escape-null) (c .before .before .before .before .before .before .before .before .before .before .before .groups .depth) (drop (c .before .before .before .before .before .before .before .before .before .before .loop .i) (c .before .before .before .before .before .before .before .before .before .before .before .before .before .before .args .bytes .now)) (sym (rw (part-rest (c .before .before .before .before .before .before .before .before .before .before .loop .i) (c .before .before .before .before .before .before .before .before .before .before .before .before .before .before .args .bytes .now)) at (c .before .before .group-ends .ensures)) ∙ c .before .if5 .taken)) (c .if6 .left)
+groups-again-2 c = search laws.opens-on
+
+sub-starts-run : tie.Need-sub-starts-run Inv-loop μ-loop Inv-groups μ-groups
+sub-starts-run c = search needs
+
+part-starts-run-start : tie.Need-part-starts-run-start Inv-loop μ-loop Inv-groups μ-groups
+part-starts-run-start c = search needs
+
+part-starts-run-end : tie.Need-part-starts-run-end Inv-loop μ-loop Inv-groups μ-groups
+part-starts-run-end c = search needs
+
+starts-run-requires : tie.Need-starts-run-requires Inv-loop μ-loop Inv-groups μ-groups
+starts-run-requires c κs = search needs
+
+sub-run-len : tie.Need-sub-run-len Inv-loop μ-loop Inv-groups μ-groups
+sub-run-len c = search needs
+
+part-run-len-start : tie.Need-part-run-len-start Inv-loop μ-loop Inv-groups μ-groups
+part-run-len-start c = search needs
+
+part-run-len-end : tie.Need-part-run-len-end Inv-loop μ-loop Inv-groups μ-groups
+part-run-len-end c = search needs
+
+run-len-requires : tie.Need-run-len-requires Inv-loop μ-loop Inv-groups μ-groups
+run-len-requires c κs = sym (c .before .before .starts-run .ensures) ∙ c .before .if7 .taken
+
+returns-2 : tie.Need-returns-2 Inv-loop μ-loop Inv-groups μ-groups
+returns-2 c = search laws.run-bad
+
+add-i-4 : tie.Need-add-i-4 Inv-loop μ-loop Inv-groups μ-groups
+add-i-4 c =
+    let r = c .before in
+    let s = r .before .before .before in
+    let l = s .before .before .before .before .before .before .before .before .before .before .before in
+    let f = l .before .before .before .before .fits in
+    let k = laws.run-room (l .loop .inv .1) (s .starts-run .ensures) (r .before .before .if7 .taken) (r .run-len .ensures) (c .if8 .left) (omega (arith, f)) in
+    omega arith
+
+groups-less-3 : tie.Need-groups-less-3 Inv-loop μ-loop Inv-groups μ-groups
+groups-less-3 c =
+    let r = c .before .before in
+    let s = r .before .before .before in
+    let w = s .before .before .before .before .before .before .before .before .before .before .before .loop .inv in
+    laws.run-less (w .1) (s .starts-run .ensures) (r .before .before .if7 .taken) (r .run-len .ensures) (c .before .if8 .left) _ (w .0)
+
+groups-again-3 : tie.Need-groups-again-3 Inv-loop μ-loop Inv-groups μ-groups
+groups-again-3 c =
+    let r = c .before .before in
+    let s = r .before .before .before in
+    let w = s .before .before .before .before .before .before .before .before .before .before .before .loop .inv in
+    laws.run-on (w .1) (s .starts-run .ensures) (r .before .before .if7 .taken) (r .run-len .ensures) (c .before .if8 .left) (c .if9 .left)
 
 sub-left-token : tie.Need-sub-left-token Inv-loop μ-loop Inv-groups μ-groups
-sub-left-token c = omega (arith, (c .before .before .before .before .before .before .before .before .before .loop .inv .1) .inside)
+sub-left-token c = search needs
 
 part-left-token-start : tie.Need-part-left-token-start Inv-loop μ-loop Inv-groups μ-groups
 part-left-token-start c = search needs
@@ -108,34 +161,63 @@ part-left-token-end : tie.Need-part-left-token-end Inv-loop μ-loop Inv-groups �
 part-left-token-end c = search needs
 
 left-token-requires : tie.Need-left-token-requires Inv-loop μ-loop Inv-groups μ-groups
-left-token-requires c κs = rw (part-rest (c .before .before .before .before .before .before .before .before .before .before .loop .i) (c .before .before .before .before .before .before .before .before .before .before .before .before .before .before .args .bytes .now)) (left (c .before .before .before .before .before .before .before .before .before .before .before .before .before .before .args .require-escape-null) (c .before .before .before .before .before .before .before .before .before .before .before .groups .depth) (drop (c .before .before .before .before .before .before .before .before .before .before .loop .i) (c .before .before .before .before .before .before .before .before .before .before .before .before .before .before .args .bytes .now)) (rw (part-rest (c .before .before .before .before .before .before .before .before .before .before .loop .i) (c .before .before .before .before .before .before .before .before .before .before .before .before .before .before .args .bytes .now), c .before .before .before .before .before .before .before .if2 .taken) at (c .before .before .before .before .before .before .before .before .plain-end .ensures)) (sym (rw (part-rest (c .before .before .before .before .before .before .before .before .before .before .loop .i) (c .before .before .before .before .before .before .before .before .before .before .before .before .before .before .args .bytes .now)) at (c .before .before .before .before .before .record-opens .ensures)) ∙ c .before .before .before .before .if4 .left) (sym (rw (part-rest (c .before .before .before .before .before .before .before .before .before .before .loop .i) (c .before .before .before .before .before .before .before .before .before .before .before .before .before .before .args .bytes .now)) at (c .before .before .group-ends .ensures)) ∙ c .before .if5 .left))
+left-token-requires c κs =
+    let s = c .before .before in
+    let o = s .before .before .before in
+    let n = o .before .before .before .before .before .before in
+    laws.left _ _ (n .unjudged-len .ensures) (o .before .before .before .before .before .if2 .taken) (o .record-opens .ensures) (s .before .before .if6 .left) (s .starts-run .ensures) (c .before .if7 .left)
 
 enum-known-inner : tie.Need-enum-known-inner Inv-loop μ-loop Inv-groups μ-groups
 enum-known-inner c = search needs
 
-add-i-4 : tie.Need-add-i-4 Inv-loop μ-loop Inv-groups μ-groups
-add-i-4 c = omega (arith, walk-within (c .before .before .before .before .before .before .before .before .before .before .before .before .before .before .loop .inv .1) (turn-took (c .before .before .before .before .before .before .before .before .before .before .before .before .before .before .before .before .before .before .args .require-escape-null) (c .before .before .before .before .before .before .before .before .before .before .before .before .before .before .before .groups .depth) (drop (c .before .before .before .before .before .before .before .before .before .before .before .before .before .before .loop .i) (c .before .before .before .before .before .before .before .before .before .before .before .before .before .before .before .before .before .before .args .bytes .now)) (sym (rw (part-rest (c .before .before .before .before .before .before .before .before .before .before .before .before .before .before .loop .i) (c .before .before .before .before .before .before .before .before .before .before .before .before .before .before .before .before .before .before .args .bytes .now)) at (c .before .before .before .before .before .before .group-ends .ensures)) ∙ c .before .before .before .before .before .if5 .left) (rw (part-rest (c .before .before .before .before .before .before .before .before .before .before .before .before .before .before .loop .i) (c .before .before .before .before .before .before .before .before .before .before .before .before .before .before .before .before .before .before .args .bytes .now), c .before .inner .given .1) at (c .before .before .before .left-token .ensures))))
+add-i-5 : tie.Need-add-i-5 Inv-loop μ-loop Inv-groups μ-groups
+add-i-5 c =
+    let k = c .before .before .before in
+    let f = k .before .before .before .before .before .before .before .before in
+    let l = f .before .before .before .before .before .before in
+    let s = l .before .before .before .before .fits in
+    let r = laws.left-room (l .loop .inv .1) (f .before .group-ends .ensures) (f .if4 .left) (k .left-token .ensures) (c .before .inner .given .1) (omega (arith, s)) in
+    omega arith
 
-groups-less-3 : tie.Need-groups-less-3 Inv-loop μ-loop Inv-groups μ-groups
-groups-less-3 c = omega (arith, c .before .before .before .before .before .before .before .before .before .before .before .before .before .before .before .loop .inv .0, walk-within (c .before .before .before .before .before .before .before .before .before .before .before .before .before .before .before .loop .inv .1) (turn-took (c .before .before .before .before .before .before .before .before .before .before .before .before .before .before .before .before .before .before .before .args .require-escape-null) (c .before .before .before .before .before .before .before .before .before .before .before .before .before .before .before .before .groups .depth) (drop (c .before .before .before .before .before .before .before .before .before .before .before .before .before .before .before .loop .i) (c .before .before .before .before .before .before .before .before .before .before .before .before .before .before .before .before .before .before .before .args .bytes .now)) (sym (rw (part-rest (c .before .before .before .before .before .before .before .before .before .before .before .before .before .before .before .loop .i) (c .before .before .before .before .before .before .before .before .before .before .before .before .before .before .before .before .before .before .before .args .bytes .now)) at (c .before .before .before .before .before .before .before .group-ends .ensures)) ∙ c .before .before .before .before .before .before .if5 .left) (rw (part-rest (c .before .before .before .before .before .before .before .before .before .before .before .before .before .before .before .loop .i) (c .before .before .before .before .before .before .before .before .before .before .before .before .before .before .before .before .before .before .before .args .bytes .now), c .before .before .inner .given .1) at (c .before .before .before .before .left-token .ensures))))
+groups-less-4 : tie.Need-groups-less-4 Inv-loop μ-loop Inv-groups μ-groups
+groups-less-4 c =
+    let k = c .before .before .before .before in
+    let f = k .before .before .before .before .before .before .before .before in
+    let w = f .before .before .before .before .before .before .loop .inv in
+    laws.left-less (w .1) (f .before .group-ends .ensures) (f .if4 .left) (k .left-token .ensures) (c .before .before .inner .given .1) _ (w .0)
 
-groups-again-3 : tie.Need-groups-again-3 Inv-loop μ-loop Inv-groups μ-groups
-groups-again-3 c = walk-on (c .before .before .before .before .before .before .before .before .before .before .before .before .before .before .before .loop .inv .1) (turn-took (c .before .before .before .before .before .before .before .before .before .before .before .before .before .before .before .before .before .before .before .args .require-escape-null) (c .before .before .before .before .before .before .before .before .before .before .before .before .before .before .before .before .groups .depth) (drop (c .before .before .before .before .before .before .before .before .before .before .before .before .before .before .before .loop .i) (c .before .before .before .before .before .before .before .before .before .before .before .before .before .before .before .before .before .before .before .args .bytes .now)) (sym (rw (part-rest (c .before .before .before .before .before .before .before .before .before .before .before .before .before .before .before .loop .i) (c .before .before .before .before .before .before .before .before .before .before .before .before .before .before .before .before .before .before .before .args .bytes .now)) at (c .before .before .before .before .before .before .before .group-ends .ensures)) ∙ c .before .before .before .before .before .before .if5 .left) (rw (part-rest (c .before .before .before .before .before .before .before .before .before .before .before .before .before .before .before .loop .i) (c .before .before .before .before .before .before .before .before .before .before .before .before .before .before .before .before .before .before .before .args .bytes .now), c .before .before .inner .given .1) at (c .before .before .before .before .left-token .ensures))) (c .if7 .left)
+groups-again-4 : tie.Need-groups-again-4 Inv-loop μ-loop Inv-groups μ-groups
+groups-again-4 c =
+    let k = c .before .before .before .before in
+    let f = k .before .before .before .before .before .before .before .before in
+    let w = f .before .before .before .before .before .before .loop .inv in
+    laws.left-on (w .1) (f .before .group-ends .ensures) (f .if4 .left) (k .left-token .ensures) (c .before .before .inner .given .1) (c .if10 .left)
 
 enum-known-no : tie.Need-enum-known-no Inv-loop μ-loop Inv-groups μ-groups
 enum-known-no c = search needs
 
-returns-2 : tie.Need-returns-2 Inv-loop μ-loop Inv-groups μ-groups
-returns-2 c = walk-bad (c .before .before .before .before .before .before .before .before .before .before .before .before .before .before .loop .inv .1) (turn-refuses (c .before .before .before .before .before .before .before .before .before .before .before .before .before .before .before .before .before .before .args .require-escape-null) (c .before .before .before .before .before .before .before .before .before .before .before .before .before .before .before .groups .depth) (drop (c .before .before .before .before .before .before .before .before .before .before .before .before .before .before .loop .i) (c .before .before .before .before .before .before .before .before .before .before .before .before .before .before .before .before .before .before .args .bytes .now)) (sym (rw (part-rest (c .before .before .before .before .before .before .before .before .before .before .before .before .before .before .loop .i) (c .before .before .before .before .before .before .before .before .before .before .before .before .before .before .before .before .before .before .args .bytes .now)) at (c .before .before .before .before .before .before .group-ends .ensures)) ∙ c .before .before .before .before .before .if5 .left) (rw (part-rest (c .before .before .before .before .before .before .before .before .before .before .before .before .before .before .loop .i) (c .before .before .before .before .before .before .before .before .before .before .before .before .before .before .before .before .before .before .args .bytes .now), c .before .no .given .1) at (c .before .before .before .left-token .ensures)))
-
 returns-3 : tie.Need-returns-3 Inv-loop μ-loop Inv-groups μ-groups
-returns-3 c = walk-end (c .before .before .before .before .loop .inv .1) (plain-took (c .before .before .before .before .before .before .before .before .args .require-escape-null) (c .before .before .before .before .before .groups .depth) (rw (part-rest (c .before .before .before .before .loop .i) (c .before .before .before .before .before .before .before .before .args .bytes .now)) at (c .before .before .plain-end .ensures)) (c .before .if2 .left)) (c .if3 .taken)
+returns-3 c = search laws.left-bad
 
 returns-4 : tie.Need-returns-4 Inv-loop μ-loop Inv-groups μ-groups
-returns-4 c = walk-end (c .before .before .before .before .before .before .before .before .before .before .loop .inv .1) (turn-closes (c .before .before .before .before .before .before .before .before .before .before .before .before .before .before .args .require-escape-null) (c .before .before .before .before .before .before .before .before .before .before .before .groups .depth) (drop (c .before .before .before .before .before .before .before .before .before .before .loop .i) (c .before .before .before .before .before .before .before .before .before .before .before .before .before .before .args .bytes .now)) (sym (rw (part-rest (c .before .before .before .before .before .before .before .before .before .before .loop .i) (c .before .before .before .before .before .before .before .before .before .before .before .before .before .before .args .bytes .now)) at (c .before .before .group-ends .ensures)) ∙ c .before .if5 .taken)) (c .if6 .taken)
+returns-4 c = search laws.number-end
 
 returns-5 : tie.Need-returns-5 Inv-loop μ-loop Inv-groups μ-groups
-returns-5 c = walk-end (c .before .before .before .before .before .before .before .before .before .before .before .before .before .before .before .loop .inv .1) (turn-took (c .before .before .before .before .before .before .before .before .before .before .before .before .before .before .before .before .before .before .before .args .require-escape-null) (c .before .before .before .before .before .before .before .before .before .before .before .before .before .before .before .before .groups .depth) (drop (c .before .before .before .before .before .before .before .before .before .before .before .before .before .before .before .loop .i) (c .before .before .before .before .before .before .before .before .before .before .before .before .before .before .before .before .before .before .before .args .bytes .now)) (sym (rw (part-rest (c .before .before .before .before .before .before .before .before .before .before .before .before .before .before .before .loop .i) (c .before .before .before .before .before .before .before .before .before .before .before .before .before .before .before .before .before .before .before .args .bytes .now)) at (c .before .before .before .before .before .before .before .group-ends .ensures)) ∙ c .before .before .before .before .before .before .if5 .left) (rw (part-rest (c .before .before .before .before .before .before .before .before .before .before .before .before .before .before .before .loop .i) (c .before .before .before .before .before .before .before .before .before .before .before .before .before .before .before .before .before .before .before .args .bytes .now), c .before .before .inner .given .1) at (c .before .before .before .before .left-token .ensures))) (c .if7 .taken)
+returns-5 c = search laws.ends-end
+
+returns-6 : tie.Need-returns-6 Inv-loop μ-loop Inv-groups μ-groups
+returns-6 c =
+    let r = c .before .before in
+    let s = r .before .before .before in
+    let w = s .before .before .before .before .before .before .before .before .before .before .before .loop .inv in
+    laws.run-end (w .1) (s .starts-run .ensures) (r .before .before .if7 .taken) (r .run-len .ensures) (c .before .if8 .left) (c .if9 .taken)
+
+returns-7 : tie.Need-returns-7 Inv-loop μ-loop Inv-groups μ-groups
+returns-7 c =
+    let k = c .before .before .before .before in
+    let f = k .before .before .before .before .before .before .before .before in
+    let w = f .before .before .before .before .before .before .loop .inv in
+    laws.left-end (w .1) (f .before .group-ends .ensures) (f .if4 .left) (k .left-token .ensures) (c .before .before .inner .given .1) (c .if10 .taken)
 
 pub skip-spec : {M : Type 1} → statement M
 skip-spec =
@@ -148,39 +230,52 @@ skip-spec =
     returns
     groups-holds
     loop-holds
-    sub-plain-end
-    part-plain-end-start
-    part-plain-end-end
-    plain-end-requires
+    sub-unjudged-len
+    part-unjudged-len-start
+    part-unjudged-len-end
+    unjudged-len-requires
     add-i
     loop-less
     loop-again
-    sub-record-opens
-    part-record-opens-start
-    part-record-opens-end
-    record-opens-requires
-    add-i-2
-    add-depth
-    groups-less
-    groups-again
     sub-group-ends
     part-group-ends-start
     part-group-ends-end
     group-ends-requires
-    add-i-3
+    add-i-2
     sub-depth
+    groups-less
+    groups-again
+    sub-record-opens
+    part-record-opens-start
+    part-record-opens-end
+    record-opens-requires
+    add-i-3
+    add-depth
     groups-less-2
     groups-again-2
+    sub-starts-run
+    part-starts-run-start
+    part-starts-run-end
+    starts-run-requires
+    sub-run-len
+    part-run-len-start
+    part-run-len-end
+    run-len-requires
+    returns-2
+    add-i-4
+    groups-less-3
+    groups-again-3
     sub-left-token
     part-left-token-start
     part-left-token-end
     left-token-requires
     enum-known-inner
-    add-i-4
-    groups-less-3
-    groups-again-3
+    add-i-5
+    groups-less-4
+    groups-again-4
     enum-known-no
-    returns-2
     returns-3
     returns-4
-    returns-5)
+    returns-5
+    returns-6
+    returns-7)
