@@ -1,8 +1,8 @@
 -- What the proofs of several functions use.
-pub mod EndLaws
+mod EndLaws
 mod TypeWalk
-mod RowLaws
 mod AdmitType
 mod AltWalk
 mod ValueWalk
 mod AdmitValue
+pub mod PickLaws

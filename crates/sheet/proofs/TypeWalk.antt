@@ -1,15 +1,13 @@
 -- What each step of the walk over a type sheet finds.
-use Prim.Native.Nat.{ℕ, zero, suc, _+_, _-_, _*_, _≤_, _<_}
+use Prim.Native.Nat.{ℕ, zero, suc, _+_, _-_, _≤_, _<_}
 use mathlib.Core.List.{List, [], _∷_}
-use mathlib.Core.Bool.{Bool}
 use mathlib.Core.Path.{_≡_, refl, ap, sym, _∙_, subst}
 use native.Mathlib.Omega.{arith}
 use lib.ListN.{length, drop, getD, drop-of-length-le}
 use Rattle.format.specs.Tree.{Ty, Tys, Alts}
 use Rattle.format.specs.TypeSheet.{Part, got, no, map, after, oneType, types, alts, typeAt}
 use Rattle.format.proofs.SheetPlaces.{front, front2}
-use Rattle.format.proofs.Tests.{Test, holds, fails, ltb-test}
-use Rattle.sheet.specs.Places.{Ends, LastRecord, IsPlain, PlainTypes, Plain, Rows}
+use Rattle.sheet.specs.Places.{Ends}
 
 -- ---- one type
 
@@ -169,11 +167,6 @@ something : {A : Type 0} (w : List ℕ) (low r : ℕ) (q : Part A) → Ends w lo
 something w low r (got a s) e z = (a, ap (got a) (e .0), e .1, e .2)
 something w low r no e z = absurd (z e)
 
--- a place within the words, in either case
-pub inside : {A : Type 0} (w : List ℕ) (low r : ℕ) (q : Part A) → Ends w low q r → r ≤ length w
-inside w low r (got a s) e = e .2
-inside w low r no e = omega arith
-
 -- a run whose next type is q: it ends there, or goes on behind it
 module _ {B : Type 0} (all : Part B) (make : B → B) (q : Part Ty) (add : Ty → B → B) (rest : List ℕ → Part B) (is : all ≡ map make (after q (λ t s. map (add t) (rest s)))) where
   stops : q ≡ no → all ≡ no
@@ -182,18 +175,17 @@ module _ {B : Type 0} (all : Part B) (make : B → B) (q : Part Ty) (add : Ty �
   goes : (t : Ty) (s : List ℕ) → q ≡ got t s → all ≡ map (λ b. make (add t b)) (rest s)
   goes t s z = is ∙ ap (λ (x : Part Ty). map make (after x (λ t s. map (add t) (rest s)))) z ∙ map-map make (add t) (rest s)
 
--- `count` types from `at` on, of which `left` are left from `place` on, of at most d groups in one another: what those make of all
-pub record Fields (w : List ℕ) (at count g left place d : ℕ) : Type 0 where
+-- `count` types from `at` on, of which `left` are left from `place` on: what those make of all
+pub record Fields (w : List ℕ) (at count g left place : ℕ) : Type 0 where
   pub low : at ≤ place
   pub high : place ≤ length w
-  pub deep : d ≤ g
   pub make : Tys → Tys
-  pub all : types (typeAt g) count (drop at w) ≡ map make (types (typeAt d) left (drop place w))
+  pub all : types (typeAt g) count (drop at w) ≡ map make (types (typeAt g) left (drop place w))
 
-pub fields-start : (w : List ℕ) (at count g : ℕ) → at ≤ length w → Fields w at count g count at g
-fields-start w at count g h = record { low = omega arith; high = h; deep = omega arith; make = λ ts. ts; all = map-id (types (typeAt g) count (drop at w)) }
+pub fields-start : (w : List ℕ) (at count g : ℕ) → at ≤ length w → Fields w at count g count at
+fields-start w at count g h = record { low = omega arith; high = h; make = λ ts. ts; all = map-id (types (typeAt g) count (drop at w)) }
 
-module _ (w : List ℕ) (at count g left place d : ℕ) (f : Fields w at count g left place d) where
+module _ (w : List ℕ) (at count g left place : ℕ) (f : Fields w at count g left place) where
   abbrev Fits : ℕ → Type 0
   Fits r = Ends w at (types (typeAt g) count (drop at w)) r
 
@@ -201,99 +193,31 @@ module _ (w : List ℕ) (at count g left place d : ℕ) (f : Fields w at count g
   unfolding types
   fields-done h =
       let z : left ≡ 0 = omega arith in
-      let e : types (typeAt g) count (drop at w) ≡ got (f .make Tys.NoTy) (drop place w) = f .all ∙ ap (λ (n : ℕ). map (f .make) (types (typeAt d) n (drop place w))) z in
+      let e : types (typeAt g) count (drop at w) ≡ got (f .make Tys.NoTy) (drop place w) = f .all ∙ ap (λ (n : ℕ). map (f .make) (types (typeAt g) n (drop place w))) z in
       subst (λ (x : Part Tys). Ends w at x place) (sym e) (refl, f .low, f .high)
 
   module _ (more : 0 < left) where
-    one-field : types (typeAt g) count (drop at w) ≡ map (f .make) (after (typeAt d (drop place w)) (λ t s. map (Tys.AddTy t) (types (typeAt d) (left - 1) s)))
+    one-field : types (typeAt g) count (drop at w) ≡ map (f .make) (after (typeAt g (drop place w)) (λ t s. map (Tys.AddTy t) (types (typeAt g) (left - 1) s)))
     unfolding types
     one-field =
         let s : left ≡ suc (left - 1) = omega arith in
-        f .all ∙ ap (λ (n : ℕ). map (f .make) (types (typeAt d) n (drop place w))) s
+        f .all ∙ ap (λ (n : ℕ). map (f .make) (types (typeAt g) n (drop place w))) s
 
-    module _ (r : ℕ) (e : Ends w (place + 1) (typeAt d (drop place w)) r) where
+    module _ (r : ℕ) (e : Ends w (place + 1) (typeAt g (drop place w)) r) where
       pub fields-fail : r ≡ 0 → Fits 0
       fields-fail z =
-          let n = stops _ (f .make) (typeAt d (drop place w)) Tys.AddTy (types (typeAt d) (left - 1)) one-field (nothing w place r (typeAt d (drop place w)) e z) in
+          let n = stops _ (f .make) (typeAt g (drop place w)) Tys.AddTy (types (typeAt g) (left - 1)) one-field (nothing w place r (typeAt g (drop place w)) e z) in
           subst (λ (x : Part Tys). Ends w at x 0) (sym n) refl
 
-      pub fields-go : (r ≡ 0 → ⊥) → Fields w at count g (left - 1) r d
+      pub fields-go : (r ≡ 0 → ⊥) → Fields w at count g (left - 1) r
       fields-go z =
-          let n = something w (place + 1) r (typeAt d (drop place w)) e z in
+          let n = something w (place + 1) r (typeAt g (drop place w)) e z in
           record {
             low = omega (arith, n .2, f .low);
             high = n .3;
-            deep = f .deep;
             make = λ ts. f .make (Tys.AddTy (n .0) ts);
-            all = goes _ (f .make) (typeAt d (drop place w)) Tys.AddTy (types (typeAt d) (left - 1)) one-field (n .0) (drop r w) (n .1);
+            all = goes _ (f .make) (typeAt g (drop place w)) Tys.AddTy (types (typeAt g) (left - 1)) one-field (n .0) (drop r w) (n .1);
           }
-
-  -- the last type is a record, and the walk goes on in it
-  pub fields-into : (n : ℕ) → LastRecord w place left d n → (n ≡ 0 → ⊥) → Fields w at count g (n - 1) (place + 2) (d - 1)
-  fields-into n l z =
-      let o = l .opens z in
-      record {
-        low = omega (arith, f .low);
-        high = omega (arith, l .inside z);
-        deep = omega (arith, f .deep);
-        make = λ ts. f .make (o .0 ts);
-        all = f .all ∙ ap (map (f .make)) (o .1) ∙ map-map (f .make) (o .0) (types (typeAt (d - 1)) (n - 1) (drop (place + 2) w));
-      }
-
--- ---- a record as the last type
-
-single-map : (x : Part Tys) → after (map Ty.Record x) (λ t s. map (Tys.AddTy t) (got Tys.NoTy s)) ≡ map (λ ts. Tys.AddTy (Ty.Record ts) Tys.NoTy) x
-single-map (got ts s) = refl
-single-map no = refl
-
-module _ (w : List ℕ) (at left g : ℕ) where
-  pub no-record : LastRecord w at left g 0
-  no-record = record { small = omega arith; inside = λ z. absurd (z refl); last = λ z. absurd (z refl); opens = λ z. absurd (z refl) }
-
-  module _ (one : left ≡ 1) (gz : g ≡ 0 → ⊥) (two : 2 ≤ length w - at) (small : getD w (at + 1) 0 < 4096) where
-    single : types (typeAt g) 1 (drop at w) ≡ after (typeAt g (drop at w)) (λ t s. map (Tys.AddTy t) (got Tys.NoTy s))
-    unfolding types
-    single = refl
-
-    pub record-last : getD w at 0 ≡ 5 → LastRecord w at left g (getD w (at + 1) 0 + 1)
-    record-last k =
-        let n = getD w (at + 1) 0 in
-        let m : n ≡ n + 1 - 1 = omega arith in
-        let s : g ≡ suc (g - 1) = omega arith in
-        let here = two-words w at 5 k (omega arith) in
-        let same : typeAt g (drop at w) ≡ map Ty.Record (types (typeAt (g - 1)) n (drop (at + 2) w)) =
-        ap (λ (d : ℕ). typeAt d (drop at w)) s ∙ ap (typeAt (suc (g - 1))) here ∙ opened (g - 1) n (drop (at + 2) w) .0 in
-        record {
-          small = omega arith;
-          inside = λ z. omega arith;
-          last = λ z. (one, omega arith);
-          opens = λ z. (
-            (λ ts. Tys.AddTy (Ty.Record ts) Tys.NoTy),
-            ap (λ (j : ℕ). types (typeAt g) j (drop at w)) one ∙ single ∙ ap (λ (x : Part Ty). after x (λ t s. map (Tys.AddTy t) (got Tys.NoTy s))) same ∙ single-map (types (typeAt (g - 1)) n (drop (at + 2) w))
-                ∙ ap (λ (j : ℕ). map (λ ts. Tys.AddTy (Ty.Record ts) Tys.NoTy) (types (typeAt (g - 1)) j (drop (at + 2) w))) m,
-          );
-        }
-
--- plain fields, one after the other
-plain-on : (m : ℕ) (w : List ℕ) (at count g place : ℕ) → Fields w at count g m place g → place + m ≤ length w → ((i : ℕ) → i < m → IsPlain (getD w (place + i) 0)) → Ends w at (types (typeAt g) count (drop at w)) (place + m)
-plain-on zero w at count g place f h p =
-    let b : place ≡ place + 0 = omega arith in
-    subst (λ (q : ℕ). Ends w at (types (typeAt g) count (drop at w)) q) b (fields-done w at count g 0 place g f (omega arith))
-plain-on (suc m) w at count g place f h p =
-    let z : place + 0 ≡ place = omega arith in
-    let k = subst (λ (q : ℕ). IsPlain (getD w q 0)) z (p 0 (omega arith)) in
-    let e = scalar w place g (omega arith) (λ n. omega (arith, k .0)) (k .1) in
-    let d : suc m - 1 ≡ m = omega arith in
-    let o = subst (λ (n : ℕ). Fields w at count g n (place + 1) g) d (fields-go w at count g (suc m) place g f (omega arith) (place + 1) e (λ n. omega arith)) in
-    let more : (i : ℕ) → i < m → IsPlain (getD w (place + 1 + i) 0) = λ i l. let a : place + suc i ≡ place + 1 + i = omega arith in subst (λ (q : ℕ). IsPlain (getD w q 0)) a (p (suc i) (omega arith)) in
-    let b : place + 1 + m ≡ place + suc m = omega arith in
-    subst (λ (q : ℕ). Ends w at (types (typeAt g) count (drop at w)) q) b (plain-on m w at count g (place + 1) o (omega arith) more)
-
-pub plain-fields : (w : List ℕ) (at n g : ℕ) → PlainTypes w at n → Ends w at (types (typeAt g) n (drop at w)) (at + n)
-plain-fields w at n g p = plain-on n w at n g at (fields-start w at n g (omega (arith, p .inside))) (p .inside) (p .plain)
-
-pub plain-record : (w : List ℕ) (at g : ℕ) → at + 1 < length w → 4 < getD w at 0 → (g ≡ 0 → ⊥) → getD w at 0 ≡ 5 → PlainTypes w (at + 2) (getD w (at + 1) 0) → Ends w (at + 1) (typeAt g (drop at w)) (at + 2 + getD w (at + 1) 0)
-plain-record w at g next group gz k p = record-end w at g next group gz (at + 2 + getD w (at + 1) 0) k (plain-fields w (at + 2) (getD w (at + 1) 0) (g - 1) p)
 
 -- `count` alternatives from `at` on, of which `left` are left from `place` on
 pub record Others (w : List ℕ) (at count g left place : ℕ) : Type 0 where
@@ -351,45 +275,3 @@ module _ (w : List ℕ) (at count g left place : ℕ) (f : Others w at count g l
     alts-out h =
         let n : alts (typeAt g) count (drop at w) ≡ no = some-alts ∙ ap (λ (l : List ℕ). map (f .make) (alts (typeAt g) (suc (left - 1)) l)) (drop-of-length-le w h) in
         subst (λ (x : Part Alts). Ends w at x 0) (sym n) refl
-
--- the end of a plain alternative's type
-pub plain-end : (w : List ℕ) (p g : ℕ) → p + 2 ≤ length w → 0 < getD w (p + 1) 0 → getD w (p + 1) 0 < 4 → Ends w (p + 1 + 1) (typeAt g (drop (p + 1) w)) (p + 2)
-plain-end w p g h a b =
-    let e : p + 1 + 1 ≡ p + 2 = omega arith in
-    subst (λ (r : ℕ). Ends w (p + 1 + 1) (typeAt g (drop (p + 1) w)) r) e (scalar w (p + 1) g (omega arith) (λ z. omega arith) b)
-
--- no room for a tag and a type
-pub alts-short : (w : List ℕ) (at count g left place : ℕ) → Others w at count g left place → 0 < left → length w - place < 2 → Ends w at (alts (typeAt g) count (drop at w)) 0
-alts-short w at count g left place f more h = go (ltb-test place (length w))
-  where
-    go : {t : Bool} → Test (place < length w) (length w ≤ place) t → Ends w at (alts (typeAt g) count (drop at w)) 0
-    go (holds l) = alts-fail w at count g left place f more l 0 (none-left w (place + 1) g (omega arith)) refl
-    go (fails l) = alts-out w at count g left place f more l
-
--- plain alternatives behind the first
-pub plain-next : (w : List ℕ) (at tag m : ℕ) → Plain w at tag (suc m) → Plain w (at + 2) tag m
-plain-next w at tag m h i l =
-    let e : at + 2 + 2 * i ≡ at + 2 * suc i = omega arith in
-    subst (λ (p : ℕ). (0 < getD w (p + 1) 0) × (getD w (p + 1) 0 < 4) × (getD w p 0 ≡ tag → ⊥)) (sym e) (h (suc i) (omega arith))
-
--- and the first
-pub plain-first : (w : List ℕ) (at tag m : ℕ) → Plain w at tag (suc m) → (0 < getD w (at + 1) 0) × (getD w (at + 1) 0 < 4) × (getD w at 0 ≡ tag → ⊥)
-plain-first w at tag m h =
-    let e : at + 2 * 0 ≡ at = omega arith in
-    subst (λ (p : ℕ). (0 < getD w (p + 1) 0) × (getD w (p + 1) 0 < 4) × (getD w p 0 ≡ tag → ⊥)) e (h 0 (omega arith))
-
-rows-on : (m : ℕ) (w : List ℕ) (at count g left place tag : ℕ) → Others w at count g left place → m ≤ left → place + 2 * m ≤ length w → Plain w place tag m → Others w at count g (left - m) (place + 2 * m)
-rows-on zero w at count g left place tag f l h p =
-    let a : left ≡ left - 0 = omega arith in
-    let b : place ≡ place + 2 * 0 = omega arith in
-    subst (λ (q : ℕ). Others w at count g (left - 0) q) b (subst (λ (n : ℕ). Others w at count g n place) a f)
-rows-on (suc m) w at count g left place tag f l h p =
-    let k = plain-first w place tag m p in
-    let o = alts-go w at count g left place f (omega arith) (omega arith) (place + 2) (plain-end w place g (omega arith) (k .0) (k .1)) (λ z. omega arith) in
-    let r = rows-on m w at count g (left - 1) (place + 2) tag o (omega arith) (omega arith) (plain-next w place tag m p) in
-    let a : left - 1 - m ≡ left - suc m = omega arith in
-    let b : place + 2 + 2 * m ≡ place + 2 * suc m = omega arith in
-    subst (λ (q : ℕ). Others w at count g (left - suc m) q) b (subst (λ (n : ℕ). Others w at count g n (place + 2 + 2 * m)) a r)
-
-pub rows-start : (w : List ℕ) (at count g tag n : ℕ) → at ≤ length w → Rows w at count tag n → Others w at count g (count - n) (at + 2 * n)
-rows-start w at count g tag n h r = rows-on n w at count g count at tag (alts-start w at count g h) (r .few) (r .inside) (r .plain)

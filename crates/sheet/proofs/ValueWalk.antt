@@ -12,7 +12,7 @@ use Rattle.format.specs.Tree.{Val, Vals}
 use Rattle.format.specs.Utf8.{utf8}
 use Rattle.format.specs.ValueSheet.{Parts, got, no, map, after, only, bytes, any, oneValue, values, valueAt}
 use Rattle.format.proofs.SheetPlaces.{front, front2}
-use Rattle.sheet.specs.Places.{ValueEnds, PlainEnds, RunEnds, LastGroup}
+use Rattle.sheet.specs.Places.{ValueEnds, PlainEnds, RunEnds}
 
 abbrev ReadFields : Type 0
 ReadFields = ℕ → List ℕ → List ℕ → Parts Vals
@@ -333,21 +333,20 @@ module _ (w b : List ℕ) (at from r q : ℕ) where
   something (got a s c) e z = (a, ap (λ (l : List ℕ). got a l c) (e .0) ∙ ap (got a (drop r w)) (e .1), omega (arith, e .2), e .3, e .4, e .5)
   something no e z = absurd (z e)
 
--- `count` values from `at` and `from` on, of which `left` are left from `place` and `used` on, in d groups fewer at most: what those make of all
-pub record Fields (w b : List ℕ) (at from count g left place used d : ℕ) : Type 0 where
+-- `count` values from `at` and `from` on, of which `left` are left from `place` and `used` on: what those make of all
+pub record Fields (w b : List ℕ) (at from count g left place used : ℕ) : Type 0 where
   pub low : at + count ≤ place + left
   pub high : place ≤ length w
   pub since : from ≤ used
   pub until : used ≤ length b
-  pub deep : d ≤ g
   pub make : Vals → Vals
-  pub all : values (valueAt g) count (drop at w) (drop from b) ≡ map make (values (valueAt d) left (drop place w) (drop used b))
+  pub all : values (valueAt g) count (drop at w) (drop from b) ≡ map make (values (valueAt g) left (drop place w) (drop used b))
 
-pub fields-start : (w b : List ℕ) (at from count g : ℕ) → at ≤ length w → from ≤ length b → Fields w b at from count g count at from g
+pub fields-start : (w b : List ℕ) (at from count g : ℕ) → at ≤ length w → from ≤ length b → Fields w b at from count g count at from
 fields-start w b at from count g h k =
-    record { low = omega arith; high = h; since = omega arith; until = k; deep = omega arith; make = λ vs. vs; all = map-id (values (valueAt g) count (drop at w) (drop from b)) }
+    record { low = omega arith; high = h; since = omega arith; until = k; make = λ vs. vs; all = map-id (values (valueAt g) count (drop at w) (drop from b)) }
 
-module _ (w b : List ℕ) (at from count g left place used d : ℕ) (f : Fields w b at from count g left place used d) where
+module _ (w b : List ℕ) (at from count g left place used : ℕ) (f : Fields w b at from count g left place used) where
   abbrev Fits : ℕ → ℕ → Type 0
   Fits r q = ValueEnds w b (at + count) from (values (valueAt g) count (drop at w) (drop from b)) r q
 
@@ -355,114 +354,35 @@ module _ (w b : List ℕ) (at from count g left place used d : ℕ) (f : Fields 
   unfolding values
   fields-done h =
       let z : left ≡ 0 = omega arith in
-      let e : values (valueAt g) count (drop at w) (drop from b) ≡ got (f .make Vals.NoVal) (drop place w) (drop used b) = f .all ∙ ap (λ (n : ℕ). map (f .make) (values (valueAt d) n (drop place w) (drop used b))) z in
+      let e : values (valueAt g) count (drop at w) (drop from b) ≡ got (f .make Vals.NoVal) (drop place w) (drop used b) = f .all ∙ ap (λ (n : ℕ). map (f .make) (values (valueAt g) n (drop place w) (drop used b))) z in
       subst (λ (x : Parts Vals). ValueEnds w b (at + count) from x place used) (sym e) (refl, refl, omega (arith, f .low), f .high, f .since, f .until)
 
-  module _ (r q : ℕ) (more : 0 < left) (e : ValueEnds w b (place + 1) used (valueAt d (drop place w) (drop used b)) r q) where
+  module _ (r q : ℕ) (more : 0 < left) (e : ValueEnds w b (place + 1) used (valueAt g (drop place w) (drop used b)) r q) where
     abbrev then : Parts Val → Parts Vals
-    then x = map (f .make) (after x (λ v s c. map (Vals.AddVal v) (values (valueAt d) (left - 1) s c)))
+    then x = map (f .make) (after x (λ v s c. map (Vals.AddVal v) (values (valueAt g) (left - 1) s c)))
 
-    one-field : values (valueAt g) count (drop at w) (drop from b) ≡ then (valueAt d (drop place w) (drop used b))
+    one-field : values (valueAt g) count (drop at w) (drop from b) ≡ then (valueAt g (drop place w) (drop used b))
     unfolding values
     one-field =
         let s : left ≡ suc (left - 1) = omega arith in
-        f .all ∙ ap (λ (n : ℕ). map (f .make) (values (valueAt d) n (drop place w) (drop used b))) s
+        f .all ∙ ap (λ (n : ℕ). map (f .make) (values (valueAt g) n (drop place w) (drop used b))) s
 
     pub fields-fail : (u : ℕ) → r ≡ 0 → Fits 0 u
     fields-fail u z =
-        let n = one-field ∙ ap then (nothing w b place used r q (valueAt d (drop place w) (drop used b)) e z) in
+        let n = one-field ∙ ap then (nothing w b place used r q (valueAt g (drop place w) (drop used b)) e z) in
         subst (λ (x : Parts Vals). ValueEnds w b (at + count) from x 0 u) (sym n) refl
 
-    pub fields-go : (r ≡ 0 → ⊥) → Fields w b at from count g (left - 1) r q d
+    pub fields-go : (r ≡ 0 → ⊥) → Fields w b at from count g (left - 1) r q
     fields-go z =
-        let n = something w b place used r q (valueAt d (drop place w) (drop used b)) e z in
+        let n = something w b place used r q (valueAt g (drop place w) (drop used b)) e z in
         record {
           low = omega (arith, n .2, f .low);
           high = n .3;
           since = omega (arith, n .4, f .since);
           until = n .5;
-          deep = f .deep;
           make = λ vs. f .make (Vals.AddVal (n .0) vs);
-          all = one-field ∙ ap then (n .1) ∙ map-map (f .make) (Vals.AddVal (n .0)) (values (valueAt d) (left - 1) (drop r w) (drop q b));
+          all = one-field ∙ ap then (n .1) ∙ map-map (f .make) (Vals.AddVal (n .0)) (values (valueAt g) (left - 1) (drop r w) (drop q b));
         }
 
-  pub fields-plain : (n : ℕ) → 0 < left → PlainEnds w place n → (n ≡ 0 → ⊥) → Fields w b at from count g (left - 1) n used d
-  fields-plain n more p z = fields-go n used more (p .ends z b used d (f .until)) z
-
-  -- the last value is a group, and the walk goes on in it
-  pub fields-into : (n : ℕ) → LastGroup w place left d n → (n ≡ 0 → ⊥) → Fields w b at from count g (n - 1) (place + 2) used (d - 1)
-  fields-into n l z =
-      let o = l .opens z (drop used b) in
-      record {
-        low = omega (arith, l .last z, f .low);
-        high = omega (arith, l .inside z);
-        since = f .since;
-        until = f .until;
-        deep = omega (arith, f .deep);
-        make = λ vs. f .make (o .0 vs);
-        all = f .all ∙ ap (map (f .make)) (o .1) ∙ map-map (f .make) (o .0) (values (valueAt (d - 1)) (n - 1) (drop (place + 2) w) (drop used b));
-      }
-
--- ---- a group as the last value
-
-abbrev single : Parts Val → Parts Vals
-single x = after x (λ v t c. map (Vals.AddVal v) (got Vals.NoVal t c))
-
-single-is : (p : ReadPayload) (s c : List ℕ) → values p 1 s c ≡ single (p s c)
-unfolding values
-single-is p s c = refl
-
-single-map : {A : Type 0} (f : A → Val) (x : Parts A) → single (map f x) ≡ map (λ a. Vals.AddVal (f a) Vals.NoVal) x
-single-map f (got a s c) = refl
-single-map f no = refl
-
-abbrev first : Vals → Val
-first Vals.NoVal = Val.Null
-first (Vals.AddVal v vs) = v
-
-first-single : (f : Val → Val) (x : Parts Val) → single (map f x) ≡ map (λ vs. Vals.AddVal (f (first vs)) Vals.NoVal) (single x)
-first-single f (got a s c) = refl
-first-single f no = refl
-
-module _ (w : List ℕ) (at left g : ℕ) where
-  pub no-group : LastGroup w at left g 0
-  no-group = record { small = omega arith; inside = λ z. absurd (z refl); last = λ z. absurd (z refl); opens = λ z. absurd (z refl) }
-
-  module _ (one : left ≡ 1) (gz : g ≡ 0 → ⊥) (two : 2 ≤ length w - at) (small : getD w (at + 1) 0 < 2 ^ 32) where
-    here : at + 1 < length w
-    here = omega arith
-
-    opened : (k : ℕ) → getD w at 0 ≡ k → (b : List ℕ) → values (valueAt g) left (drop at w) b ≡ single (valueAt (suc (g - 1)) (k ∷ getD w (at + 1) 0 ∷ drop (at + 2) w) b)
-    opened k e b =
-        let s : g ≡ suc (g - 1) = omega arith in
-        let same : drop at w ≡ k ∷ getD w (at + 1) 0 ∷ drop (at + 2) w = cc (front2 w at here) in
-        ap (λ (n : ℕ). values (valueAt g) n (drop at w) b) one ∙ single-is (valueAt g) (drop at w) b ∙ ap (λ (n : ℕ). single (valueAt n (drop at w) b)) s ∙ ap (λ (l : List ℕ). single (valueAt (suc (g - 1)) l b)) same
-
-    pub record-last : getD w at 0 ≡ 5 → LastGroup w at left g (getD w (at + 1) 0 + 1)
-    record-last k =
-        let n = getD w (at + 1) 0 in
-        let m : n ≡ n + 1 - 1 = omega arith in
-        record {
-          small = omega arith;
-          inside = λ z. omega arith;
-          last = λ z. (one, omega arith);
-          opens = λ z b. (
-            (λ vs. Vals.AddVal (Val.Record vs) Vals.NoVal),
-            opened 5 k b ∙ ap single (opened-record (g - 1) n (drop (at + 2) w) b) ∙ single-map Val.Record (values (valueAt (g - 1)) n (drop (at + 2) w) b)
-                ∙ ap (λ (j : ℕ). map (λ vs. Vals.AddVal (Val.Record vs) Vals.NoVal) (values (valueAt (g - 1)) j (drop (at + 2) w) b)) m,
-          );
-        }
-
-    pub union-last : getD w at 0 ≡ 6 → LastGroup w at left g 2
-    union-last k =
-        let n = getD w (at + 1) 0 in
-        record {
-          small = omega arith;
-          inside = λ z. omega arith;
-          last = λ z. (one, omega arith);
-          opens = λ z b. (
-            (λ vs. Vals.AddVal (Val.Union n (first vs)) Vals.NoVal),
-            opened 6 k b ∙ ap single (opened-union (g - 1) n (drop (at + 2) w) b) ∙ ap (λ (u : Bool). single (only u (map (Val.Union n) (valueAt (g - 1) (drop (at + 2) w) b)))) (lt-ltb n (2 ^ 32) small)
-                ∙ first-single (Val.Union n) (valueAt (g - 1) (drop (at + 2) w) b) ∙ ap (map (λ vs. Vals.AddVal (Val.Union n (first vs)) Vals.NoVal)) (sym (single-is (valueAt (g - 1)) (drop (at + 2) w) b)),
-          );
-        }
+  pub fields-plain : (n : ℕ) → 0 < left → PlainEnds w place n → (n ≡ 0 → ⊥) → Fields w b at from count g (left - 1) n used
+  fields-plain n more p z = fields-go n used more (p .ends z b used g (f .until)) z

@@ -1,13 +1,13 @@
 -- What the walks over sheets answer: places, as the code has them, for the words that are left.
-use Prim.Native.Nat.{ℕ, _+_, _-_, _*_, _^_, _≤_, _<_}
+use Prim.Native.Nat.{ℕ, _+_, _≤_, _<_}
 use mathlib.Core.List.{List}
 use mathlib.Core.Option.{Option, some, none}
 use mathlib.Core.Path.{_≡_}
 use lib.ListN.{length, drop, getD}
-use Rattle.format.specs.Tree.{Ty, Tys, Alts, Vals}
+use Rattle.format.specs.Tree.{Ty, Alts}
 use Rattle.format.specs.Sheet.{altCount}
-use Rattle.format.specs.TypeSheet.{maxGroups, Part, got, no, map, types, typeAt, nesting, altNestings}
-use Rattle.format.specs.ValueSheet.{Parts, map as mapParts, values, valueAt}
+use Rattle.format.specs.TypeSheet.{maxGroups, Part, got, no, nesting, altNestings}
+use Rattle.format.specs.ValueSheet.{Parts, valueAt}
 use Rattle.format.proofs.TypePlaces.{TypeIn, AltsIn}
 use Rattle.format.proofs.Choose.{choose}
 
@@ -15,13 +15,6 @@ use Rattle.format.proofs.Choose.{choose}
 abbrev pub Ends : {A : Type 0} → List ℕ → ℕ → Part A → ℕ → Type 0
 Ends w low (got a s) r = (s ≡ drop r w) × (low ≤ r) × (r ≤ length w)
 Ends w low no r = r ≡ 0
-
--- unless r is 0, one type is left and it is a record of r - 1 fields, which are all that is left behind its two words
-pub record LastRecord (w : List ℕ) (at left g r : ℕ) : Type 0 where
-  pub small : r ≤ 4096
-  pub inside : (r ≡ 0 → ⊥) → at + 2 ≤ length w
-  pub last : (r ≡ 0 → ⊥) → (left ≡ 1) × (0 < g)
-  pub opens : (r ≡ 0 → ⊥) → (make : Tys → Tys) × (types (typeAt g) left (drop at w) ≡ map make (types (typeAt (g - 1)) (r - 1) (drop (at + 2) w)))
 
 -- words end before the place r and their bytes before the place q, which are at least low and from; r is 0 where nothing was read
 abbrev pub ValueEnds : {A : Type 0} → List ℕ → List ℕ → ℕ → ℕ → Parts A → ℕ → ℕ → Type 0
@@ -37,36 +30,6 @@ pub record PlainEnds (w : List ℕ) (at r : ℕ) : Type 0 where
 -- r and q are the ends of the Str or Bytes at `at` and of its bytes, which is no group
 pub record RunEnds (w b : List ℕ) (at from r q : ℕ) : Type 0 where
   pub ends : (g : ℕ) → ValueEnds w b (at + 1) from (valueAt g (drop at w) (drop from b)) r q
-
--- unless r is 0, one value is left and it is a group of r - 1 values, which are all that is left behind its two words
-pub record LastGroup (w : List ℕ) (at left g r : ℕ) : Type 0 where
-  pub small : r ≤ 2 ^ 32
-  pub inside : (r ≡ 0 → ⊥) → at + 2 ≤ length w
-  pub last : (r ≡ 0 → ⊥) → (left ≡ 1) × (0 < g)
-  pub opens : (r ≡ 0 → ⊥) → (b : List ℕ) → (make : Vals → Vals) × (values (valueAt g) left (drop at w) b ≡ mapParts make (values (valueAt (g - 1)) (r - 1) (drop (at + 2) w) b))
-
--- a plain kind: Int, Str or Bytes
-abbrev pub IsPlain : ℕ → Type 0
-IsPlain k = (0 < k) × (k < 4)
-
--- the n types from `at` on are there, and plain
-pub record PlainTypes (w : List ℕ) (at n : ℕ) : Type 0 where
-  pub inside : at + n ≤ length w
-  pub plain : (i : ℕ) → i < n → IsPlain (getD w (at + i) 0)
-
--- the n alternatives from `at` on are of plain types, Int, Str or Bytes, and none has the tag
-abbrev pub Plain : (w : List ℕ) (at tag n : ℕ) → Type 0
-Plain w at tag n = (i : ℕ) → i < n → (0 < getD w (at + 2 * i + 1) 0) × (getD w (at + 2 * i + 1) 0 < 4) × (getD w (at + 2 * i) 0 ≡ tag → ⊥)
-
--- r of `count` alternatives stand there so
-pub record Rows (w : List ℕ) (at count tag r : ℕ) : Type 0 where
-  pub few : r ≤ count
-  pub inside : at + 2 * r ≤ length w
-  pub plain : Plain w at tag r
-
--- r is the end of whatever type stands at p
-pub record Skips (w : List ℕ) (p r : ℕ) : Type 0 where
-  pub skips : (t : Ty) (e : ℕ) → TypeIn w p t e → nesting t ≤ maxGroups → r ≡ e
 
 -- r is the end of whatever l alternatives stand at p
 pub record SkipsAlts (w : List ℕ) (p l r : ℕ) : Type 0 where

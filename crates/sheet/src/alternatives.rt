@@ -1,21 +1,14 @@
 // A union's alternatives: the one with a tag, and the place behind some of them.
-use crate::rows::flat_end;
-use crate::rows::plain_rows;
 use crate::types::alternatives_end;
 use crate::types::type_end;
 ghost use mathlib.Core.Path.{_≡_};
+ghost use mathlib.Core.Bool.{true};
 ghost use Rattle.sheet.specs.Places.{Picks, SkipsAlts};
 
 // An alternative of a union: the place of its type, 0 for none, and how many alternatives stand behind it.
 pub struct Choice {
     pub place: usize,
     pub left: u32,
-}
-
-fn wide(x: u32) -> u64
-    ensures { λ r. ⌜ r ≡ x ⌝ }
-{
-    x as u64
 }
 
 // The first alternative with the tag, of the union at `at` of an admitted sheet. Steps over the alternatives before it.
@@ -28,34 +21,26 @@ pub fn alternative(ty: &[u32], at: usize, tag: u64) -> Choice
     if ty.len() - at < 2 {
         return Choice { place: 0, left: 0 };
     }
-    let count = ty[at + 1];
-    let rows = plain_rows(ty, at + 2, count, tag);
-    let mut left = count - rows;
-    let mut place = at + 2 + 2 * (rows as usize);
-    while left > 0 {
-        if ty.len() - place < 2 {
-            return Choice { place: 0, left: 0 };
+    let mut left = ty[at + 1];
+    let mut place = at + 2;
+    let found = loop {
+        if left == 0 {
+            break 0;
         }
+        if place >= ty.len() {
+            break 0;
+        }
+        left -= 1;
         let inside = place + 1;
-        if wide(ty[place]) == tag {
-            return Choice {
-                place: inside,
-                left: left - 1,
-            };
+        if format::wide_word(ty[place]) == tag {
+            break inside;
         }
-        let next = flat_end(ty, inside, format::MAX_SHEET_GROUPS);
-        if next != 0 {
-            place = next;
-            left -= 1;
-        } else {
-            place = type_end(ty, inside, format::MAX_SHEET_GROUPS);
-            if place == 0 {
-                return Choice { place: 0, left: 0 };
-            }
-            left -= 1;
+        place = type_end(ty, inside, format::MAX_SHEET_GROUPS);
+        if place == 0 {
+            break 0;
         }
-    }
-    Choice { place: 0, left: 0 }
+    };
+    Choice { place: found, left }
 }
 
 // The place behind `count` alternatives from `at` on, of an admitted sheet.
@@ -66,4 +51,14 @@ pub fn skip_alternatives(ty: &[u32], at: usize, count: u32) -> usize
         return 0;
     }
     alternatives_end(ty, at, count, format::MAX_SHEET_GROUPS)
+}
+
+// The place behind the alternatives left of a union, where it is asked for: they are not passed in vain.
+pub fn union_end(ty: &[u32], at: usize, left: u32, asked: bool) -> usize
+    ensures { λ r. ⌜ (asked ≡ true → SkipsAlts (now (ty .entry)) at left r) ⌝ }
+{
+    if asked {
+        return skip_alternatives(ty, at, left);
+    }
+    at
 }

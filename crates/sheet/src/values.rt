@@ -4,7 +4,7 @@ ghost use Prim.Native.Nat.{_+_, _≤_, _<_};
 ghost use lib.ListN.{length, drop, getD};
 ghost use Rattle.format.specs.TypeSheet.{isSome};
 ghost use Rattle.format.specs.ValueSheet.{valueAt, values, valueOf};
-ghost use Rattle.sheet.specs.Places.{ValueEnds, PlainEnds, RunEnds, LastGroup};
+ghost use Rattle.sheet.specs.Places.{ValueEnds, PlainEnds, RunEnds};
 
 // A place in a value sheet: in the words and in the pool.
 pub struct Place {
@@ -92,39 +92,8 @@ fn other_end(words: &[u64], pool: &[u8], at: usize, from: usize, groups: usize) 
     values_end(words, pool, at + 2, from, 1, groups - 1)
 }
 
-// Where one value is left and a group opens at its place, how many values the group has, and one; else 0. So the walk goes on in the group: it ends where
-// the group does.
-fn last_group(words: &[u64], at: usize, left: u64, groups: usize) -> u64
-    ensures { λ r. ⌜ LastGroup (now (words .entry)) at left groups r ⌝ }
-{
-    if left != 1 {
-        return 0;
-    }
-    if groups == 0 {
-        return 0;
-    }
-    if at >= words.len() {
-        return 0;
-    }
-    if words.len() - at < 2 {
-        return 0;
-    }
-    let more = words[at + 1];
-    if more >= format::DISCRIMINANTS {
-        return 0;
-    }
-    let kind = words[at];
-    if kind == format::VALUE_RECORD {
-        return more + 1;
-    }
-    if kind == format::VALUE_UNION {
-        return 2;
-    }
-    0
-}
-
 // The place behind `count` values from `at` on, their bytes from `from` on, each with at most `groups` groups in one another; its words are 0 if they
-// do not stand there. A plain value is passed in place, and only a group that is not the last value is a call.
+// do not stand there. A plain value is passed in place.
 fn values_end(
     words: &[u64],
     pool: &[u8],
@@ -139,27 +108,19 @@ fn values_end(
     let mut left = count;
     let mut place = at;
     let mut used = from;
-    let mut deep = groups;
     while left > 0 {
         let next = plain_end(words, place);
         if next != 0 {
             place = next;
             left -= 1;
         } else {
-            let more = last_group(words, place, left, deep);
-            if more != 0 {
-                place += 2;
-                left = more - 1;
-                deep -= 1;
-            } else {
-                let end = other_end(words, pool, place, used, deep);
-                place = end.words;
-                used = end.pool;
-                if place == 0 {
-                    return Place { words: 0, pool: 0 };
-                }
-                left -= 1;
+            let end = other_end(words, pool, place, used, groups);
+            place = end.words;
+            used = end.pool;
+            if place == 0 {
+                return Place { words: 0, pool: 0 };
             }
+            left -= 1;
         }
     }
     Place {

@@ -1,3 +1,4 @@
+-- The end that the walk finds is the end of whatever alternatives stand there.
 use Rattle.sheet.proofs.EndLaws.{alts-end-is}
 use borrow.Author.Needs.{needs}
 use Rattle.sheet.proofs.alternatives.skip_alternatives.Statement.{statement}

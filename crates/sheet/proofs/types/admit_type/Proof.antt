@@ -1,3 +1,4 @@
+-- The sheet is admitted exactly where the type at 0 ends at the sheet's end: the end that the walk finds decides, after the limit on words.
 use Rattle.sheet.proofs.AdmitType.{too-long, no-type, is-type}
 use borrow.Author.Needs.{needs}
 use Rattle.sheet.proofs.types.admit_type.Statement.{statement}

@@ -1,6 +1,8 @@
+-- Each way out of a walk is a law of `ValueWalk`. The loop's invariant (`Fields`): what the values that are left make of all; how many are left falls.
+-- Calls nest by groups: the measure is twice the groups that may still open, and one for a run.
 use borrow.Author.Needs.{needs}
 use native.Mathlib.Omega.{arith}
-use Rattle.sheet.proofs.ValueWalk.{none-left, short, is-run, too-deep, unknown, record-end, big-tag, payload, not-plain, Fields, fields-start, fields-plain, fields-into, fields-done, fields-fail, fields-go}
+use Rattle.sheet.proofs.ValueWalk.{none-left, short, is-run, too-deep, unknown, record-end, big-tag, payload, not-plain, Fields, fields-start, fields-plain, fields-done, fields-fail, fields-go}
 use Prim.Native.Nat.{ℕ, _+_, _*_, _<_}
 use borrow.Fn.Kinds.{In}
 use borrow.Fn.PlainCycle.{Measures, is, falls, and}
@@ -10,7 +12,6 @@ use Rattle.sheet.proofs.values.+other_end+values_end.Lts-other_end as o
 use Rattle.sheet.proofs.values.values_end.Reads as values-end
 use Rattle.sheet.proofs.values.values_end.Kinds as values-end-kinds
 use Rattle.sheet.proofs.values.+other_end+values_end.Lts-values_end as values-end-lts
-use Rattle.sheet.proofs.values.last_group.Reads as last-group-reads
 use Rattle.sheet.proofs.values.plain_end.Reads as plain-end-reads
 use Rattle.sheet.proofs.values.run_end.Reads as run-end-reads
 use Rattle.sheet.proofs.values.+other_end+values_end.{statement}
@@ -37,129 +38,116 @@ abbrev values-end-below : ℕ → In 2 values-end-kinds.ps
 values-end-below t =
     and 2 values-end-kinds.ps (falls 2 values-end-kinds.ps _<_ μ-values-end t) values-end.Pre
 
-other-end-returns : (t : ℕ) → other-end-lts.Need-returns (run-end-reads.Asked, run-end-reads.Learnt, values-end-below t, values-end.Post) (other-end-at t) other-end.Post
+abbrev other-end-claims : ℕ → other-end-lts.Claims
+other-end-claims t = (run-end-reads.Asked, run-end-reads.Learnt, values-end-below t, values-end.Post)
+
+other-end-returns : (t : ℕ) → other-end-lts.Need-returns (other-end-claims t) (other-end-at t) other-end.Post
 other-end-returns t c = search none-left
 
-other-end-sub-if2 : (t : ℕ) → other-end-lts.Need-sub-if2 (run-end-reads.Asked, run-end-reads.Learnt, values-end-below t, values-end.Post) (other-end-at t) other-end.Post
+other-end-sub-if2 : (t : ℕ) → other-end-lts.Need-sub-if2 (other-end-claims t) (other-end-at t) other-end.Post
 other-end-sub-if2 t c = search needs
 
-other-end-returns-2 : (t : ℕ) → other-end-lts.Need-returns-2 (run-end-reads.Asked, run-end-reads.Learnt, values-end-below t, values-end.Post) (other-end-at t) other-end.Post
+other-end-returns-2 : (t : ℕ) → other-end-lts.Need-returns-2 (other-end-claims t) (other-end-at t) other-end.Post
 other-end-returns-2 t c = search short
 
-other-end-mul-kind : (t : ℕ) → other-end-lts.Need-mul-kind (run-end-reads.Asked, run-end-reads.Learnt, values-end-below t, values-end.Post) (other-end-at t) other-end.Post
+other-end-mul-kind : (t : ℕ) → other-end-lts.Need-mul-kind (other-end-claims t) (other-end-at t) other-end.Post
 other-end-mul-kind t c = search needs
 
-other-end-shared-slice-read-kind : (t : ℕ) → other-end-lts.Need-shared-slice-read-kind (run-end-reads.Asked, run-end-reads.Learnt, values-end-below t, values-end.Post) (other-end-at t) other-end.Post
+other-end-shared-slice-read-kind : (t : ℕ) → other-end-lts.Need-shared-slice-read-kind (other-end-claims t) (other-end-at t) other-end.Post
 other-end-shared-slice-read-kind t c = search needs
 
-other-end-run-end-requires : (t : ℕ) → other-end-lts.Need-run-end-requires (run-end-reads.Asked, run-end-reads.Learnt, values-end-below t, values-end.Post) (other-end-at t) other-end.Post
+other-end-run-end-requires : (t : ℕ) → other-end-lts.Need-run-end-requires (other-end-claims t) (other-end-at t) other-end.Post
 other-end-run-end-requires t c κs = (omega arith, search is-run, omega arith, omega arith)
 
-other-end-returns-3 : (t : ℕ) → other-end-lts.Need-returns-3 (run-end-reads.Asked, run-end-reads.Learnt, values-end-below t, values-end.Post) (other-end-at t) other-end.Post
+other-end-returns-3 : (t : ℕ) → other-end-lts.Need-returns-3 (other-end-claims t) (other-end-at t) other-end.Post
 other-end-returns-3 t c = c .run-end .ensures .ends _
 
-other-end-returns-4 : (t : ℕ) → other-end-lts.Need-returns-4 (run-end-reads.Asked, run-end-reads.Learnt, values-end-below t, values-end.Post) (other-end-at t) other-end.Post
+other-end-returns-4 : (t : ℕ) → other-end-lts.Need-returns-4 (other-end-claims t) (other-end-at t) other-end.Post
 other-end-returns-4 t c = search too-deep
 
-other-end-add-x : (t : ℕ) → other-end-lts.Need-add-x (run-end-reads.Asked, run-end-reads.Learnt, values-end-below t, values-end.Post) (other-end-at t) other-end.Post
+other-end-add-x : (t : ℕ) → other-end-lts.Need-add-x (other-end-claims t) (other-end-at t) other-end.Post
 other-end-add-x t c = search needs
 
-other-end-mul-x : (t : ℕ) → other-end-lts.Need-mul-x (run-end-reads.Asked, run-end-reads.Learnt, values-end-below t, values-end.Post) (other-end-at t) other-end.Post
+other-end-mul-x : (t : ℕ) → other-end-lts.Need-mul-x (other-end-claims t) (other-end-at t) other-end.Post
 other-end-mul-x t c = search needs
 
-other-end-shared-slice-read-x : (t : ℕ) → other-end-lts.Need-shared-slice-read-x (run-end-reads.Asked, run-end-reads.Learnt, values-end-below t, values-end.Post) (other-end-at t) other-end.Post
+other-end-shared-slice-read-x : (t : ℕ) → other-end-lts.Need-shared-slice-read-x (other-end-claims t) (other-end-at t) other-end.Post
 other-end-shared-slice-read-x t c = search needs
 
-other-end-add-values-end : (t : ℕ) → other-end-lts.Need-add-values-end (run-end-reads.Asked, run-end-reads.Learnt, values-end-below t, values-end.Post) (other-end-at t) other-end.Post
+other-end-add-values-end : (t : ℕ) → other-end-lts.Need-add-values-end (other-end-claims t) (other-end-at t) other-end.Post
 other-end-add-values-end t c = search needs
 
-other-end-sub-values-end : (t : ℕ) → other-end-lts.Need-sub-values-end (run-end-reads.Asked, run-end-reads.Learnt, values-end-below t, values-end.Post) (other-end-at t) other-end.Post
+other-end-sub-values-end : (t : ℕ) → other-end-lts.Need-sub-values-end (other-end-claims t) (other-end-at t) other-end.Post
 other-end-sub-values-end t c = search needs
 
-other-end-values-end-requires : (t : ℕ) → other-end-lts.Need-values-end-requires (run-end-reads.Asked, run-end-reads.Learnt, values-end-below t, values-end.Post) (other-end-at t) other-end.Post
+other-end-values-end-requires : (t : ℕ) → other-end-lts.Need-values-end-requires (other-end-claims t) (other-end-at t) other-end.Post
 other-end-values-end-requires t c κs = (omega arith, (omega arith, omega arith))
 
-other-end-returns-5 : (t : ℕ) → other-end-lts.Need-returns-5 (run-end-reads.Asked, run-end-reads.Learnt, values-end-below t, values-end.Post) (other-end-at t) other-end.Post
+other-end-returns-5 : (t : ℕ) → other-end-lts.Need-returns-5 (other-end-claims t) (other-end-at t) other-end.Post
 other-end-returns-5 t c = search record-end
 
-other-end-returns-6 : (t : ℕ) → other-end-lts.Need-returns-6 (run-end-reads.Asked, run-end-reads.Learnt, values-end-below t, values-end.Post) (other-end-at t) other-end.Post
+other-end-returns-6 : (t : ℕ) → other-end-lts.Need-returns-6 (other-end-claims t) (other-end-at t) other-end.Post
 other-end-returns-6 t c = search unknown
 
-other-end-returns-7 : (t : ℕ) → other-end-lts.Need-returns-7 (run-end-reads.Asked, run-end-reads.Learnt, values-end-below t, values-end.Post) (other-end-at t) other-end.Post
+other-end-returns-7 : (t : ℕ) → other-end-lts.Need-returns-7 (other-end-claims t) (other-end-at t) other-end.Post
 other-end-returns-7 t c = search big-tag
 
-other-end-add-values-end-2 : (t : ℕ) → other-end-lts.Need-add-values-end-2 (run-end-reads.Asked, run-end-reads.Learnt, values-end-below t, values-end.Post) (other-end-at t) other-end.Post
+other-end-add-values-end-2 : (t : ℕ) → other-end-lts.Need-add-values-end-2 (other-end-claims t) (other-end-at t) other-end.Post
 other-end-add-values-end-2 t c = search needs
 
-other-end-sub-values-end-2 : (t : ℕ) → other-end-lts.Need-sub-values-end-2 (run-end-reads.Asked, run-end-reads.Learnt, values-end-below t, values-end.Post) (other-end-at t) other-end.Post
+other-end-sub-values-end-2 : (t : ℕ) → other-end-lts.Need-sub-values-end-2 (other-end-claims t) (other-end-at t) other-end.Post
 other-end-sub-values-end-2 t c = search needs
 
-other-end-values-end-requires-2 : (t : ℕ) → other-end-lts.Need-values-end-requires-2 (run-end-reads.Asked, run-end-reads.Learnt, values-end-below t, values-end.Post) (other-end-at t) other-end.Post
+other-end-values-end-requires-2 : (t : ℕ) → other-end-lts.Need-values-end-requires-2 (other-end-claims t) (other-end-at t) other-end.Post
 other-end-values-end-requires-2 t c κs = (omega arith, (omega arith, omega arith))
 
-other-end-returns-8 : (t : ℕ) → other-end-lts.Need-returns-8 (run-end-reads.Asked, run-end-reads.Learnt, values-end-below t, values-end.Post) (other-end-at t) other-end.Post
+other-end-returns-8 : (t : ℕ) → other-end-lts.Need-returns-8 (other-end-claims t) (other-end-at t) other-end.Post
 other-end-returns-8 t c = search payload
 
+abbrev values-end-claims : ℕ → values-end-lts.Claims
+values-end-claims t = (plain-end-reads.Asked, plain-end-reads.Learnt, other-end-below t, other-end.Post)
+
 abbrev values-end-Inv-loop : values-end-lts.InvT-loop
-values-end-Inv-loop words pool at from count groups left₀ place₀ used₀ deep₀ left place used deep =
-    Fields words pool at from count groups left place used deep
+values-end-Inv-loop words pool at from count groups left₀ place₀ used₀ left place used = Fields words pool at from count groups left place used
 
 abbrev values-end-μ-loop : values-end-lts.MeasureT-loop
-values-end-μ-loop words pool at from count groups left₀ place₀ used₀ deep₀ left place used deep = 4294967296 * deep + left
+values-end-μ-loop words pool at from count groups left₀ place₀ used₀ left place used = left
 
-values-end-loop-holds : (t : ℕ) → values-end-lts.Need-loop-holds (plain-end-reads.Asked, plain-end-reads.Learnt, last-group-reads.Asked, last-group-reads.Learnt, other-end-below t, other-end.Post) (values-end-at t) values-end.Post values-end-Inv-loop values-end-μ-loop
+values-end-loop-holds : (t : ℕ) → values-end-lts.Need-loop-holds (values-end-claims t) (values-end-at t) values-end.Post values-end-Inv-loop values-end-μ-loop
 values-end-loop-holds t c = search fields-start
 
-values-end-plain-end-requires : (t : ℕ) → values-end-lts.Need-plain-end-requires (plain-end-reads.Asked, plain-end-reads.Learnt, last-group-reads.Asked, last-group-reads.Learnt, other-end-below t, other-end.Post) (values-end-at t) values-end.Post values-end-Inv-loop values-end-μ-loop
+values-end-plain-end-requires : (t : ℕ) → values-end-lts.Need-plain-end-requires (values-end-claims t) (values-end-at t) values-end.Post values-end-Inv-loop values-end-μ-loop
 values-end-plain-end-requires t c κs = search needs
 
-values-end-sub-left : (t : ℕ) → values-end-lts.Need-sub-left (plain-end-reads.Asked, plain-end-reads.Learnt, last-group-reads.Asked, last-group-reads.Learnt, other-end-below t, other-end.Post) (values-end-at t) values-end.Post values-end-Inv-loop values-end-μ-loop
+values-end-sub-left : (t : ℕ) → values-end-lts.Need-sub-left (values-end-claims t) (values-end-at t) values-end.Post values-end-Inv-loop values-end-μ-loop
 values-end-sub-left t c = search needs
 
-values-end-loop-less : (t : ℕ) → values-end-lts.Need-loop-less (plain-end-reads.Asked, plain-end-reads.Learnt, last-group-reads.Asked, last-group-reads.Learnt, other-end-below t, other-end.Post) (values-end-at t) values-end.Post values-end-Inv-loop values-end-μ-loop
-values-end-loop-less t c = omega arith
+values-end-loop-less : (t : ℕ) → values-end-lts.Need-loop-less (values-end-claims t) (values-end-at t) values-end.Post values-end-Inv-loop values-end-μ-loop
+values-end-loop-less t c = search needs
 
-values-end-loop-again : (t : ℕ) → values-end-lts.Need-loop-again (plain-end-reads.Asked, plain-end-reads.Learnt, last-group-reads.Asked, last-group-reads.Learnt, other-end-below t, other-end.Post) (values-end-at t) values-end.Post values-end-Inv-loop values-end-μ-loop
+values-end-loop-again : (t : ℕ) → values-end-lts.Need-loop-again (values-end-claims t) (values-end-at t) values-end.Post values-end-Inv-loop values-end-μ-loop
 values-end-loop-again t c = search fields-plain
 
-values-end-last-group-requires : (t : ℕ) → values-end-lts.Need-last-group-requires (plain-end-reads.Asked, plain-end-reads.Learnt, last-group-reads.Asked, last-group-reads.Learnt, other-end-below t, other-end.Post) (values-end-at t) values-end.Post values-end-Inv-loop values-end-μ-loop
-values-end-last-group-requires t c κs = search needs
+values-end-other-end-requires : (t : ℕ) → values-end-lts.Need-other-end-requires (values-end-claims t) (values-end-at t) values-end.Post values-end-Inv-loop values-end-μ-loop
+values-end-other-end-requires t c κs = (omega arith, (search not-plain, omega arith))
 
-values-end-add-place : (t : ℕ) → values-end-lts.Need-add-place (plain-end-reads.Asked, plain-end-reads.Learnt, last-group-reads.Asked, last-group-reads.Learnt, other-end-below t, other-end.Post) (values-end-at t) values-end.Post values-end-Inv-loop values-end-μ-loop
-values-end-add-place t c = omega (arith, c .before .last-group .ensures .inside (c .if2 .taken))
-
-values-end-sub-left-2 : (t : ℕ) → values-end-lts.Need-sub-left-2 (plain-end-reads.Asked, plain-end-reads.Learnt, last-group-reads.Asked, last-group-reads.Learnt, other-end-below t, other-end.Post) (values-end-at t) values-end.Post values-end-Inv-loop values-end-μ-loop
-values-end-sub-left-2 t c = omega (arith, c .if2 .taken)
-
-values-end-sub-deep : (t : ℕ) → values-end-lts.Need-sub-deep (plain-end-reads.Asked, plain-end-reads.Learnt, last-group-reads.Asked, last-group-reads.Learnt, other-end-below t, other-end.Post) (values-end-at t) values-end.Post values-end-Inv-loop values-end-μ-loop
-values-end-sub-deep t c = omega (arith, c .before .last-group .ensures .last (c .if2 .taken))
-
-values-end-loop-less-2 : (t : ℕ) → values-end-lts.Need-loop-less-2 (plain-end-reads.Asked, plain-end-reads.Learnt, last-group-reads.Asked, last-group-reads.Learnt, other-end-below t, other-end.Post) (values-end-at t) values-end.Post values-end-Inv-loop values-end-μ-loop
-values-end-loop-less-2 t c = omega (arith, c .before .last-group .ensures .last (c .if2 .taken), c .before .last-group .ensures .small)
-
-values-end-loop-again-2 : (t : ℕ) → values-end-lts.Need-loop-again-2 (plain-end-reads.Asked, plain-end-reads.Learnt, last-group-reads.Asked, last-group-reads.Learnt, other-end-below t, other-end.Post) (values-end-at t) values-end.Post values-end-Inv-loop values-end-μ-loop
-values-end-loop-again-2 t c = search fields-into
-
-values-end-other-end-requires : (t : ℕ) → values-end-lts.Need-other-end-requires (plain-end-reads.Asked, plain-end-reads.Learnt, last-group-reads.Asked, last-group-reads.Learnt, other-end-below t, other-end.Post) (values-end-at t) values-end.Post values-end-Inv-loop values-end-μ-loop
-values-end-other-end-requires t c κs = (omega (arith, c .before .before .before .before .before .loop .inv .deep), (search not-plain, omega (arith, c .before .before .before .before .before .loop .inv .until)))
-
-values-end-returns : (t : ℕ) → values-end-lts.Need-returns (plain-end-reads.Asked, plain-end-reads.Learnt, last-group-reads.Asked, last-group-reads.Learnt, other-end-below t, other-end.Post) (values-end-at t) values-end.Post values-end-Inv-loop values-end-μ-loop
+values-end-returns : (t : ℕ) → values-end-lts.Need-returns (values-end-claims t) (values-end-at t) values-end.Post values-end-Inv-loop values-end-μ-loop
 values-end-returns t c = search fields-fail
 
-values-end-sub-left-3 : (t : ℕ) → values-end-lts.Need-sub-left-3 (plain-end-reads.Asked, plain-end-reads.Learnt, last-group-reads.Asked, last-group-reads.Learnt, other-end-below t, other-end.Post) (values-end-at t) values-end.Post values-end-Inv-loop values-end-μ-loop
-values-end-sub-left-3 t c = search needs
+values-end-sub-left-2 : (t : ℕ) → values-end-lts.Need-sub-left-2 (values-end-claims t) (values-end-at t) values-end.Post values-end-Inv-loop values-end-μ-loop
+values-end-sub-left-2 t c = search needs
 
-values-end-loop-less-3 : (t : ℕ) → values-end-lts.Need-loop-less-3 (plain-end-reads.Asked, plain-end-reads.Learnt, last-group-reads.Asked, last-group-reads.Learnt, other-end-below t, other-end.Post) (values-end-at t) values-end.Post values-end-Inv-loop values-end-μ-loop
-values-end-loop-less-3 t c = omega arith
+values-end-loop-less-2 : (t : ℕ) → values-end-lts.Need-loop-less-2 (values-end-claims t) (values-end-at t) values-end.Post values-end-Inv-loop values-end-μ-loop
+values-end-loop-less-2 t c = search needs
 
-values-end-loop-again-3 : (t : ℕ) → values-end-lts.Need-loop-again-3 (plain-end-reads.Asked, plain-end-reads.Learnt, last-group-reads.Asked, last-group-reads.Learnt, other-end-below t, other-end.Post) (values-end-at t) values-end.Post values-end-Inv-loop values-end-μ-loop
-values-end-loop-again-3 t c = search fields-go
+values-end-loop-again-2 : (t : ℕ) → values-end-lts.Need-loop-again-2 (values-end-claims t) (values-end-at t) values-end.Post values-end-Inv-loop values-end-μ-loop
+values-end-loop-again-2 t c = search fields-go
 
-values-end-returns-2 : (t : ℕ) → values-end-lts.Need-returns-2 (plain-end-reads.Asked, plain-end-reads.Learnt, last-group-reads.Asked, last-group-reads.Learnt, other-end-below t, other-end.Post) (values-end-at t) values-end.Post values-end-Inv-loop values-end-μ-loop
+values-end-returns-2 : (t : ℕ) → values-end-lts.Need-returns-2 (values-end-claims t) (values-end-at t) values-end.Post values-end-Inv-loop values-end-μ-loop
 values-end-returns-2 t c = search fields-done
 
 pub +other-end+values-end-spec : {M : Type 1} → statement M
-+other-end+values-end-spec = close μ-other-end μ-values-end (λ t. other-end-lts.spec (run-end-reads.Asked, run-end-reads.Learnt, values-end-below t, values-end.Post)
++other-end+values-end-spec = close μ-other-end μ-values-end (λ t. other-end-lts.spec (other-end-claims t)
     (other-end-at t)
     other-end.Post
     (other-end-returns t)
@@ -183,14 +171,7 @@ pub +other-end+values-end-spec : {M : Type 1} → statement M
     (other-end-sub-values-end-2 t)
     (other-end-values-end-requires-2 t)
     (other-end-returns-8 t))
-    λ t. values-end-lts.spec (
-      plain-end-reads.Asked,
-      plain-end-reads.Learnt,
-      last-group-reads.Asked,
-      last-group-reads.Learnt,
-      other-end-below t,
-      other-end.Post,
-    )
+    λ t. values-end-lts.spec (values-end-claims t)
     (values-end-at t)
     values-end.Post
     values-end-Inv-loop
@@ -200,15 +181,9 @@ pub +other-end+values-end-spec : {M : Type 1} → statement M
     (values-end-sub-left t)
     (values-end-loop-less t)
     (values-end-loop-again t)
-    (values-end-last-group-requires t)
-    (values-end-add-place t)
-    (values-end-sub-left-2 t)
-    (values-end-sub-deep t)
-    (values-end-loop-less-2 t)
-    (values-end-loop-again-2 t)
     (values-end-other-end-requires t)
     (values-end-returns t)
-    (values-end-sub-left-3 t)
-    (values-end-loop-less-3 t)
-    (values-end-loop-again-3 t)
+    (values-end-sub-left-2 t)
+    (values-end-loop-less-2 t)
+    (values-end-loop-again-2 t)
     (values-end-returns-2 t)

@@ -1,3 +1,4 @@
+-- The sheet is admitted exactly where the value at 0 ends at the end of words and pool: the ends that the walk finds decide, after both limits.
 use Rattle.sheet.proofs.AdmitValue.{too-long, too-large, no-value, more-words, is-value}
 use borrow.Author.Needs.{needs}
 use Rattle.sheet.proofs.values.admit_value.Statement.{statement}

@@ -1,3 +1,4 @@
+-- Each way out is a law of `ValueWalk` about the word at the place.
 use Rattle.sheet.proofs.ValueWalk.{gone, null, cut, integer, reference, other}
 use borrow.Author.Needs.{needs}
 use Rattle.sheet.proofs.values.plain_end.Statement.{statement}

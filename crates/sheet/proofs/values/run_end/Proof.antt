@@ -1,3 +1,4 @@
+-- Each way out is a law of `ValueWalk` about the Str or Bytes that its two words say: too long for the pool, raw, text, or no text.
 use Rattle.sheet.proofs.ValueWalk.{over, raw, text, no-text}
 use borrow.Author.Needs.{needs}
 use Rattle.sheet.proofs.values.run_end.Statement.{statement}

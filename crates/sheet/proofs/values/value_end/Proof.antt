@@ -1,3 +1,4 @@
+-- One value is a run of one value.
 use Rattle.sheet.proofs.ValueWalk.{none-left, one-end}
 use borrow.Author.Needs.{needs}
 use Rattle.sheet.proofs.values.value_end.Statement.{statement}
