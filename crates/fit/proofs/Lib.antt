@@ -1,3 +1,4 @@
--- Laws of the walk over type and value, and of the sum over the words.
+-- Laws that the proofs of the measuring walk cite.
+pub mod Leaves
 pub mod Steps
-pub mod Sums
+pub mod Rows

@@ -1,136 +1,111 @@
--- What the measuring walk answers, in one word: where type and value end, or the refusal.
+-- What the measuring walk answers: where type and value end and how long the encoding is, or the refusal.
 use mathlib.Core.Path.{_≡_}
+use mathlib.Core.Bool.{Bool, true}
 use mathlib.Core.List.{List}
-use Prim.Native.Nat.{ℕ, _+_, _-_, _/_, _%_, _≤_, _<_}
-use lib.ListN.{length, getD}
-use Rattle.format.specs.Answer.{Answer, ok, refused, ReservedFactId, FactRefPredicate}
+use Prim.Native.Nat.{ℕ, _+_, _*_, _≤_}
+use lib.ListN.{length}
+use lib.Seq.{slice}
+use Rattle.format.specs.Answer.{Answer, ok, refused}
 use Rattle.format.specs.Tree.{Ty, Tys, Alts, Val, Vals}
 use Rattle.format.specs.Sheet.{fieldCount, altCount, valCount}
-use Rattle.format.specs.TypeSheet.{nesting, nestings, altNestings, maxGroups, maxTypeWords}
-use Rattle.format.specs.ValueSheet.{maxValueWords, Proper, AllProper}
-use Rattle.format.specs.Scalar.{predicateOf}
-use Rattle.format.specs.Encode.{fits, fitsAll, fitsRef, inUnion, fine}
+use Rattle.format.specs.TypeSheet.{nesting, nestings, altNestings, maxGroups}
+use Rattle.format.specs.ValueSheet.{maxValueWords}
+use Rattle.format.specs.Scalar.{uintBytes}
+use Rattle.format.specs.Encode.{valBytes, valsBytes, fits, fitsAll, inUnion, fine}
+use Rattle.format.proofs.PlainLaws.{plainPool, plainBytes}
 use Rattle.format.proofs.TypePlaces.{TypeIn, TypesIn, AltsIn}
 use Rattle.format.proofs.ValuePlaces.{ValueIn, ValuesIn}
+use Rattle.fit.specs.declared.Fitted.{Fitted}
+use Rattle.fit.specs.declared.Fitted.the-variants.{Fits, Refused}
 
--- ---- one word
+-- ---- what stands at the places
 
--- 2^32 places, details or numbers; refusals from 2^63 on
-abbrev pub places : ℕ
-places = 4294967296
+-- a type and a value, up to the places e, f and g
+pub record Pair (ty words pool : List ℕ) (t w p : ℕ) (T : Ty) (v : Val) (e f g : ℕ) : Type 0 where
+  pub type : TypeIn ty t T e
+  pub deep : nesting T ≤ maxGroups
+  pub value : ValueIn words pool w p v f g
 
-abbrev pub refusals : ℕ
-refusals = 9223372036854775808
+-- n types and n values in a row
+pub record Row (ty words pool : List ℕ) (t w p n : ℕ) (ts : Tys) (vs : Vals) (e f g : ℕ) : Type 0 where
+  pub types : TypesIn ty t ts e
+  pub deep : nestings ts ≤ maxGroups
+  pub values : ValuesIn words pool w p vs f g
+  pub count : fieldCount ts ≡ n
+  pub same : valCount vs ≡ n
 
--- the low half: a place in the type, or a refusal's detail
-unfoldable pub lowOf : ℕ → ℕ
-lowOf r = r % places
-
--- the high half: a place in the words, or 2^31 and a refusal's number
-unfoldable pub wordAt : ℕ → ℕ
-wordAt r = r / places
-
-unfoldable pub numberOf : ℕ → ℕ
-numberOf r = r / places - 2147483648
-
--- a walk that stands there
-pub record Stands (t w r : ℕ) : Type 0 where
-  pub low : r < refusals
-  pub word : wordAt r ≡ w
-  pub place : t < places → lowOf r ≡ t
-
-pub record Refuses (m d r : ℕ) : Type 0 where
-  pub high : refusals ≤ r
-  pub number : numberOf r ≡ m
-  pub detail : d < places → lowOf r ≡ d
-
--- ---- places
-
--- the place lies within sheets of admitted size
-pub record Ready (ty words : List ℕ) (w : ℕ) : Type 0 where
-  pub word-in : w ≤ length words
+-- some type and some value, in sheets of admitted size
+pub record Standing (ty words pool : List ℕ) (t w p : ℕ) : Type 0 where
+  pub T : Ty
+  pub v : Val
+  pub e : ℕ
+  pub f : ℕ
+  pub g : ℕ
+  pub here : Pair ty words pool t w p T v e f g
   pub few : length words ≤ maxValueWords
-  pub small : length ty ≤ maxTypeWords
+  pub small : length pool ≤ maxValueWords
 
--- a walk that is not refused stands within the words, not before w
-pub record Onward (words : List ℕ) (w r : ℕ) : Type 0 where
-  pub onward : r < refusals → (w ≤ wordAt r) × (wordAt r ≤ length words)
+pub record StandingRow (ty words pool : List ℕ) (t w p n : ℕ) : Type 0 where
+  pub ts : Tys
+  pub vs : Vals
+  pub e : ℕ
+  pub f : ℕ
+  pub g : ℕ
+  pub here : Row ty words pool t w p n ts vs e f g
+  pub few : length words ≤ maxValueWords
+  pub small : length pool ≤ maxValueWords
 
 -- ---- answers
 
--- it fits: the walk stands at the ends of type and words
-pub record Good (e f r : ℕ) : Type 0 where
-  pub low : r < refusals
-  pub at-ty : lowOf r ≡ e
-  pub at-word : wordAt r ≡ f
+abbrev pub answerOf : Fitted → Answer Unit
+answerOf (Fits at word pool len) = fine
+answerOf (Refused n d) = refused n d
 
--- it is refused
-pub record Bad (m d r : ℕ) : Type 0 where
-  pub high : refusals ≤ r
-  pub number : numberOf r ≡ m
-  pub detail : lowOf r ≡ d
+-- the Int, Str or Bytes with the kind k and the second word x, and a reference that was judged
+abbrev pub leafIn : (pool : List ℕ) (k x t w p : ℕ) → Fitted
+leafIn pool k x t w p = Fits (t + 1) (w + 2) (p + plainPool k x) (length (plainBytes k x (slice p (p + plainPool k x) pool)))
 
-abbrev pub Gives : Answer Unit → (e f r : ℕ) → Type 0
-Gives (ok u) e f r = Good e f r
-Gives (refused m d) e f r = Bad m d r
+abbrev pub refIn : Answer Unit → (t w p : ℕ) → Fitted
+refIn (ok u) t w p = Fits (t + 2) (w + 2) p 9
+refIn (refused n d) t w p = Refused n d
 
--- where the end is known, it is e; 0 stands for an unknown end
-abbrev pub Known : (end e : ℕ) → Type 0
-Known end e = (end ≡ 0 → ⊥) → e ≡ end
+abbrev pub lenOf : Fitted → ℕ
+lenOf (Fits at word pool len) = len
+lenOf (Refused n d) = 0
 
--- what is known of the end of a part, with `behind` of the row's parts behind it
-pub record Handed (end behind r : ℕ) : Type 0 where
-  pub handed : (r ≡ 0 → ⊥) → (r ≡ end) × (behind ≡ 0)
+abbrev pub longer : ℕ → Fitted → Fitted
+longer k (Fits at word pool len) = Fits at word pool (len + k)
+longer k (Refused n d) = Refused n d
 
--- whatever type and value stand at the places, r says whether the value fits
-pub record One (ty words : List ℕ) (depth end t w r : ℕ) : Type 0 where
-  pub one : (T : Ty) (v : Val) (pool : List ℕ) (p e f g : ℕ) → TypeIn ty t T e → Known end e → nesting T ≤ maxGroups → ValueIn words pool w p v f g → Proper v → Gives (fits T depth v) e f r
+-- where it fits, these are the ends of words and pool and the length; the place in the type is its end where that is asked for
+abbrev pub EndsAt : Bool → (e f g n : ℕ) → Fitted → Type 0
+EndsAt asked e f g n (Fits at word pool len) = (asked ≡ true → at ≡ e) × (word ≡ f) × (pool ≡ g) × (len ≡ n)
+EndsAt asked e f g n (Refused m d) = Unit {0}
 
--- and whatever n types and n values in a row
-pub record Row (ty words : List ℕ) (depth end n t w r : ℕ) : Type 0 where
-  pub row : (ts : Tys) (vs : Vals) (pool : List ℕ) (p e f g : ℕ) → n ≡ fieldCount ts → n ≡ valCount vs → TypesIn ty t ts e → Known end e → nestings ts ≤ maxGroups → ValuesIn words pool w p vs f g → AllProper vs
-      → Gives (fitsAll ts depth vs) e f r
+-- what the walk says of what stands there: a of the refusal, and of the ends and the length
+pub record Says (a : Answer Unit) (asked : Bool) (e f g n : ℕ) (r : Fitted) : Type 0 where
+  pub answer : answerOf r ≡ a
+  pub ends : EndsAt asked e f g n r
 
--- whatever type and value stand at the places t and w, the value fits, and they end at t′ and w′
-pub record Step (ty words : List ℕ) (depth end t w t′ w′ : ℕ) : Type 0 where
-  pub step : (T : Ty) (v : Val) (pool : List ℕ) (p e f g : ℕ) → TypeIn ty t T e → Known end e → nesting T ≤ maxGroups → ValueIn words pool w p v f g → Proper v → (fits T depth v ≡ fine) × (t′ ≡ e) × (w′ ≡ f)
+-- where it fits, the length is at most 6 for each word that was passed, and 2 for each byte: so no sum is too large
+abbrev pub Brief : (words pool : List ℕ) (w p : ℕ) → Fitted → Type 0
+Brief words pool w p (Fits at word end len) = (w ≤ word) × (word ≤ length words) × (p ≤ end) × (end ≤ length pool) × (len + (6 * w + 2 * p) ≤ 6 * word + 2 * end)
+Brief words pool w p (Refused n d) = Unit {0}
 
 -- ---- what each walk promises
 
--- the refusal of a reference by its number, 0 for none
-pub record RefSays (predicate raw n : ℕ) : Type 0 where
-  pub fits : n ≡ 0 → fitsRef predicate raw ≡ fine
-  pub reserved : n ≡ ReservedFactId → fitsRef predicate raw ≡ refused ReservedFactId 0
-  pub other : (n ≡ 0 → ⊥) → (n ≡ ReservedFactId → ⊥) → fitsRef predicate raw ≡ refused FactRefPredicate (predicateOf raw)
+-- whatever type and value stand at the places
+pub record FitValue (ty words pool : List ℕ) (t w p depth : ℕ) (asked : Bool) (r : Fitted) : Type 0 where
+  pub brief : Brief words pool w p r
+  pub says : (T : Ty) (v : Val) (e f g : ℕ) → Pair ty words pool t w p T v e f g → Says (fits T depth v) asked e f g (length (valBytes depth v)) r
 
--- how many words the type has of a value that is no group and fits; 0 says nothing
-pub record Plain (ty words : List ℕ) (t w n : ℕ) : Type 0 where
-  pub type-in : (n ≡ 0 → ⊥) → t + n ≤ length ty
-  pub word-in : (n ≡ 0 → ⊥) → w + 2 ≤ length words
-  pub says : (n ≡ 0 → ⊥) → (depth end : ℕ) → Step ty words depth end t w (t + n) (w + 2)
+-- whatever n types and n values in a row
+pub record FitFields (ty words pool : List ℕ) (t w p n depth : ℕ) (asked : Bool) (r : Fitted) : Type 0 where
+  pub brief : Brief words pool w p r
+  pub says : (ts : Tys) (vs : Vals) (e f g : ℕ) → Row ty words pool t w p n ts vs e f g → Says (fitsAll ts depth vs) asked e f g (length (valsBytes depth vs)) r
 
--- one field is left, a record that opens, and what its fields say, it says; n is 0 otherwise
-pub record Last (ty words : List ℕ) (t w left depth n : ℕ) : Type 0 where
-  pub one : (n ≡ 0 → ⊥) → left ≡ 1
-  pub type-in : (n ≡ 0 → ⊥) → t + 2 ≤ length ty
-  pub word-in : (n ≡ 0 → ⊥) → w + 2 ≤ length words
-  pub shallow : (n ≡ 0 → ⊥) → depth < 256
-  pub says : (n ≡ 0 → ⊥) → (end r : ℕ) → Row ty words (depth + 1) end (getD ty (t + 1) 0) (t + 2) (w + 2) r → One ty words depth end t w r
-
--- a value that is no group, of its type's kind k and with the second word x
-pub record FitScalar (ty words : List ℕ) (t w k x r : ℕ) : Type 0 where
-  pub onward : Onward words w r
-  pub says : k ≡ getD ty t 0 → getD words w 0 ≡ k → x ≡ getD words (w + 1) 0 → k < 5 → (depth end : ℕ) → One ty words depth end t w r
-
--- what a union makes of its payload's answer, with `left` alternatives behind the payload's type
-pub record Closed (ty : List ℕ) (tag left end s r : ℕ) : Type 0 where
-  pub word : r < refusals → (s < refusals) × (wordAt r ≡ wordAt s)
-  pub says : (a : Answer Unit) (m f : ℕ) (us : Alts) (e : ℕ) → Gives a m f s → AltsIn ty m us e → Known end e → altCount us ≡ left → altNestings us ≤ maxGroups → tag < places → Gives (inUnion tag a) e f r
-
-pub record FitValue (ty words : List ℕ) (t w depth end r : ℕ) : Type 0 where
-  pub onward : Onward words w r
-  pub says : One ty words depth end t w r
-
-pub record FitFields (ty words : List ℕ) (t w n depth end r : ℕ) : Type 0 where
-  pub onward : Onward words w r
-  pub says : Row ty words depth end n t w r
+-- what a union with a tag makes of its payload's answer r, with `left` alternatives behind the payload's type
+pub record Closed (ty : List ℕ) (tag left : ℕ) (asked : Bool) (r s : Fitted) : Type 0 where
+  pub brief : (words pool : List ℕ) (w p : ℕ) → Brief words pool (w + 2) p r → Brief words pool w p s
+  pub says : (a : Answer Unit) (m f g n : ℕ) (us : Alts) (e : ℕ) → Says a asked m f g n r → AltsIn ty m us e → altCount us ≡ left → altNestings us ≤ maxGroups
+      → Says (inUnion tag a) asked e f g (n + (2 + length (uintBytes tag))) s

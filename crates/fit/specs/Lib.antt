@@ -1,3 +1,2 @@
 -- What the measuring walk promises.
 pub mod Fit
-pub mod Sum
