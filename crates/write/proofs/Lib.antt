@@ -1,2 +1,4 @@
 -- Laws of the writing walk.
+pub mod Stores
+pub mod Groups
 pub mod Steps

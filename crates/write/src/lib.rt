@@ -1,33 +1,25 @@
-// The encoder's writing walk. It goes by the value alone: a value's type has no part in its bytes.
+// The encoder's writing walk. It goes by the value and its depth alone: a value's type has no part in its bytes.
 ghost use mathlib.Core.Path.{_≡_};
-ghost use mathlib.Core.Bool.{true};
 ghost use mathlib.Core.List.{[], _∷_};
-ghost use Prim.Native.Nat.{_+_, _≤_, _<_};
+ghost use Prim.Native.Nat.{_≤_};
 ghost use lib.Dec.{leb};
-ghost use lib.ListN.{length, getD, replicate};
-ghost use lib.Seq.{slice};
-ghost use Rattle.format.specs.Scalar.{intBytes, uintBytes, refBytes, escaped};
+ghost use lib.ListN.{length};
+ghost use Rattle.format.specs.Scalar.{intBytes, refBytes, tagBytes, escaped};
 ghost use Rattle.format.proofs.PlainLaws.{plainPool, plainBytes};
-ghost use Rattle.write.specs.Write.{standing, groupCount, groupBytes, Stored, Ready, Passed, WroteValue, WroteFields};
+ghost use Rattle.write.specs.Write.{standing, groupCount, groupBytes, Stored, Ready, WroteValue, WroteFields};
 
-// Where the walk stands in the words, the pool and the buffer, and how many fields are left.
+// Where the walk stands in the words, the pool and the buffer.
 pub struct Put {
     pub word: usize,
     pub pool: usize,
     pub at: usize,
-    pub left: u64,
 }
 
 // A walk that stands at these places.
-pub fn stand(word: usize, pool: usize, at: usize, left: u64) -> Put
-    ensures { λ r. ⌜ r ≡ standing word pool at left ⌝ }
+fn stand(word: usize, pool: usize, at: usize) -> Put
+    ensures { λ r. ⌜ r ≡ standing word pool at ⌝ }
 {
-    Put {
-        word,
-        pool,
-        at,
-        left,
-    }
+    Put { word, pool, at }
 }
 
 // One byte, where there is room.
@@ -53,17 +45,6 @@ fn put_int(out: &mut [u8], at: usize, w: u64) -> usize
     scalar::ints::write_i64(out, at, w)
 }
 
-// A discriminant, where there is room.
-fn put_disc(out: &mut [u8], at: usize, n: u64) -> usize
-    requires { ⌜ at ≤ length (now out) ⌝ }
-    ensures { λ r. ⌜ Stored (now (out .entry)) at (uintBytes n) r (now (out .exit)) ⌝ }
-{
-    if out.len() - at < scalar::ints::uint_len(n) {
-        return at;
-    }
-    scalar::ints::write_u64(out, at, n)
-}
-
 // A reference, where there is room.
 fn put_ref(out: &mut [u8], at: usize, raw: u64) -> usize
     requires { ⌜ at ≤ length (now out) ⌝ }
@@ -75,26 +56,41 @@ fn put_ref(out: &mut [u8], at: usize, raw: u64) -> usize
     scalar::refs::write_ref(out, at, raw)
 }
 
-// Has the run of the pool's bytes from p up to e no more than n bytes? Its zeros are counted only where twice its payload would not fit.
-fn run_fits(pool: &[u8], p: usize, e: usize, n: usize) -> bool
-    requires { ⌜ (p ≤ e) × (e ≤ length (now pool)) ⌝ }
-    ensures { λ r. ⌜ r ≡ leb (length (escaped (slice p e (now (pool .entry))))) n ⌝ }
+// Has the run of a payload no more than n bytes? Its zeros are counted only where twice the payload would not fit.
+fn run_fits(payload: &[u8], n: usize) -> bool
+    ensures { λ r. ⌜ r ≡ leb (length (escaped (now (payload .entry)))) n ⌝ }
 {
-    if e - p < n / 2 {
+    if payload.len() < n / 2 {
         return true;
     }
-    scalar::runs::run_len(pool, p, e) <= n
+    scalar::runs::escaped_len(payload) <= n
 }
 
-// A run of the pool's bytes from p up to e, where there is room.
-fn put_run(out: &mut [u8], at: usize, pool: &[u8], p: usize, e: usize) -> usize
-    requires { ⌜ (at ≤ length (now out)) × (p ≤ e) × (e ≤ length (now pool)) ⌝ }
-    ensures { λ r. ⌜ Stored (now (out .entry)) at (escaped (slice p e (now (pool .entry)))) r (now (out .exit)) ⌝ }
+// A mark and the run of a payload, where there is room.
+fn put_run(out: &mut [u8], at: usize, mark: u8, payload: &[u8]) -> usize
+    requires { ⌜ at ≤ length (now out) ⌝ }
+    ensures { λ r. ⌜ Stored (now (out .entry)) at (mark ∷ escaped (now (payload .entry))) r (now (out .exit)) ⌝ }
 {
-    if run_fits(pool, p, e, out.len() - at) {
-        return scalar::runs::write_run(out, at, pool, p, e);
+    let run = put_byte(out, at, mark);
+    if run_fits(payload, out.len() - run) {
+        return scalar::runs::write_escaped(out, run, payload);
     }
-    at
+    run
+}
+
+// A union's tag, where there is room.
+fn put_tag(out: &mut [u8], at: usize, disc: u32) -> usize
+    requires { ⌜ at ≤ length (now out) ⌝ }
+    ensures { λ r. ⌜ Stored (now (out .entry)) at (tagBytes disc) r (now (out .exit)) ⌝ }
+{
+    let tag = scalar::UnionTag::new(disc);
+    let n = tag.len;
+    if out.len() - at < n {
+        return at;
+    }
+    let bytes = tag.bytes;
+    blocks::copy_to(out, at, &bytes, 0, n);
+    at + n
 }
 
 // How many bytes of the pool a value takes that is no group: a run's length.
@@ -110,18 +106,10 @@ fn run_of(kind: u64, x: u64) -> usize
     x as usize
 }
 
-// A value that is no group, of a kind and with the second word x, its bytes of the pool from p up to e.
-fn put_scalar(
-    out: &mut [u8],
-    at: usize,
-    kind: u64,
-    x: u64,
-    pool: &[u8],
-    p: usize,
-    e: usize,
-) -> usize
-    requires { ⌜ (at ≤ length (now out)) × (p ≤ e) × (e ≤ length (now pool)) ⌝ }
-    ensures { λ r. ⌜ Stored (now (out .entry)) at (plainBytes kind x (slice p e (now (pool .entry)))) r (now (out .exit)) ⌝ }
+// A value that is no group, of a kind and with the second word x, by its bytes of the pool.
+fn put_scalar(out: &mut [u8], at: usize, kind: u64, x: u64, payload: &[u8]) -> usize
+    requires { ⌜ at ≤ length (now out) ⌝ }
+    ensures { λ r. ⌜ Stored (now (out .entry)) at (plainBytes kind x (now (payload .entry))) r (now (out .exit)) ⌝ }
 {
     if kind == format::VALUE_INT {
         return put_int(out, at, x);
@@ -130,49 +118,9 @@ fn put_scalar(
         return put_ref(out, at, x);
     }
     if kind == format::VALUE_STR {
-        let run = put_byte(out, at, format::MARK_STRING);
-        return put_run(out, run, pool, p, e);
+        return put_run(out, at, format::MARK_STRING, payload);
     }
-    let run = put_byte(out, at, format::MARK_BYTES);
-    put_run(out, run, pool, p, e)
-}
-
-// The values from a place on that are no groups, up to the first that is not passed so.
-pub fn put_plain(
-    words: &[u64],
-    pool: &[u8],
-    out: &mut [u8],
-    word: usize,
-    from: usize,
-    start: usize,
-    count: u64,
-) -> Put
-    requires { ⌜ Ready (now words) (now pool) (now out) (standing word from start count) ⌝ }
-    ensures { λ r. ⌜ Passed (now (words .entry)) (now (pool .entry)) (standing word from start count) (now (out .entry)) r (now (out .exit)) ⌝ }
-{
-    let mut w = word;
-    let mut p = from;
-    let mut at = start;
-    let mut left = count;
-    while 0 < left {
-        if words.len() - w < 2 {
-            return stand(w, p, at, left);
-        }
-        let kind = words[w];
-        let x = words[w + 1];
-        if format::VALUE_RECORD <= kind {
-            return stand(w, p, at, left);
-        }
-        let n = run_of(kind, x);
-        if pool.len() - p < n {
-            return stand(w, p, at, left);
-        }
-        at = put_scalar(out, at, kind, x, pool, p, p + n);
-        w += 2;
-        p += n;
-        left -= 1;
-    }
-    stand(w, p, at, left)
+    put_run(out, at, format::MARK_BYTES, payload)
 }
 
 // How many values a group has: a union one.
@@ -182,7 +130,7 @@ fn count_of(kind: u64, x: u64) -> u64
     if kind == format::VALUE_RECORD { x } else { 1 }
 }
 
-// A group's mark, and a union's tag.
+// What a group begins with: a record's mark, or a union's tag.
 fn open_group(out: &mut [u8], at: usize, kind: u64, x: u64) -> usize
     requires { ⌜ at ≤ length (now out) ⌝ }
     ensures { λ r. ⌜ Stored (now (out .entry)) at (groupBytes kind x) r (now (out .exit)) ⌝ }
@@ -190,41 +138,13 @@ fn open_group(out: &mut [u8], at: usize, kind: u64, x: u64) -> usize
     if kind == format::VALUE_RECORD {
         return put_byte(out, at, format::MARK_RECORD);
     }
-    let tag = put_byte(out, at, format::MARK_UNION);
-    put_disc(out, tag, x)
-}
-
-// So many groups' ends, where there is room.
-fn put_ends(out: &mut [u8], start: usize, count: usize) -> usize
-    requires { ⌜ start ≤ length (now out) ⌝ }
-    ensures { λ r. ⌜ Stored (now (out .entry)) start (replicate count 0) r (now (out .exit)) ⌝ }
-{
-    let mut at = start;
-    let mut left = count;
-    while 0 < left {
-        at = put_byte(out, at, format::MARK_TERM);
-        left -= 1;
+    if x < format::DISCRIMINANTS {
+        return put_tag(out, at, x as u32);
     }
     at
 }
 
-// Is one value left, and does a group open at its place? Then the walk goes on in it, and its end is written with those of all.
-fn last_group(words: &[u64], w: usize, left: u64) -> bool
-    ensures { λ r. ⌜ (r ≡ true → (left ≡ 1) × (w + 2 ≤ length (now (words .entry))) × (4 < getD (now (words .entry)) w 0)) ⌝ }
-{
-    if left != 1 {
-        return false;
-    }
-    if words.len() <= w {
-        return false;
-    }
-    if words.len() - w < 2 {
-        return false;
-    }
-    format::VALUE_FACT < words[w]
-}
-
-// A value.
+// A value that stands at a depth. Its kind says how many words it has.
 pub fn put_value(
     words: &[u64],
     pool: &[u8],
@@ -232,30 +152,37 @@ pub fn put_value(
     word: usize,
     from: usize,
     at: usize,
+    depth: usize,
 ) -> Put
-    requires { ⌜ Ready (now words) (now pool) (now out) (standing word from at 0) ⌝ }
-    ensures { λ r. ⌜ WroteValue (now (words .entry)) (now (pool .entry)) (standing word from at 0) (now (out .entry)) r (now (out .exit)) ⌝ }
+    requires { ⌜ Ready (now words) (now pool) (now out) (standing word from at) depth ⌝ }
+    ensures { λ r. ⌜ WroteValue (now (words .entry)) (now (pool .entry)) (standing word from at) depth (now (out .entry)) r (now (out .exit)) ⌝ }
 {
-    if words.len() - word < 2 {
-        return stand(word, from, at, 0);
+    if words.len() <= word {
+        return stand(word, from, at);
     }
     let kind = words[word];
+    if words.len() - word < 2 {
+        return stand(word, from, at);
+    }
     let x = words[word + 1];
+    let next = word + 2;
     if kind < format::VALUE_RECORD {
         let n = run_of(kind, x);
         if pool.len() - from < n {
-            return stand(word, from, at, 0);
+            return stand(word, from, at);
         }
-        let end = put_scalar(out, at, kind, x, pool, from, from + n);
-        return stand(word + 2, from + n, end, 0);
+        let behind = from + n;
+        let end = put_scalar(out, at, kind, x, &pool[from..behind]);
+        return stand(next, behind, end);
     }
     let inner = open_group(out, at, kind, x);
-    let r = put_fields(words, pool, out, word + 2, from, inner, count_of(kind, x));
+    let count = count_of(kind, x);
+    let r = put_fields(words, pool, out, next, from, inner, count, depth + 1);
     let end = put_byte(out, r.at, format::MARK_TERM);
-    stand(r.word, r.pool, end, 0)
+    stand(r.word, r.pool, end)
 }
 
-// The fields of a record. Only a group that is not the last one is a call.
+// So many values in a row that stand at a depth: a record's fields, or a union's payload.
 pub fn put_fields(
     words: &[u64],
     pool: &[u8],
@@ -264,38 +191,21 @@ pub fn put_fields(
     from: usize,
     start: usize,
     count: u64,
+    depth: usize,
 ) -> Put
-    requires { ⌜ Ready (now words) (now pool) (now out) (standing word from start count) ⌝ }
-    ensures { λ r. ⌜ WroteFields (now (words .entry)) (now (pool .entry)) (standing word from start count) (now (out .entry)) r (now (out .exit)) ⌝ }
+    requires { ⌜ Ready (now words) (now pool) (now out) (standing word from start) depth ⌝ }
+    ensures { λ r. ⌜ WroteFields (now (words .entry)) (now (pool .entry)) (standing word from start) count depth (now (out .entry)) r (now (out .exit)) ⌝ }
 {
     let mut w = word;
     let mut p = from;
     let mut at = start;
     let mut left = count;
-    let mut ends: usize = 0;
-    loop {
-        let r = put_plain(words, pool, out, w, p, at, left);
+    while 0 < left {
+        let r = put_value(words, pool, out, w, p, at, depth);
         w = r.word;
         p = r.pool;
         at = r.at;
-        left = r.left;
-        if left == 0 {
-            let end = put_ends(out, at, ends);
-            return stand(w, p, end, 0);
-        }
-        if last_group(words, w, left) {
-            let kind = words[w];
-            let tag = words[w + 1];
-            at = open_group(out, at, kind, tag);
-            left = count_of(kind, tag);
-            w += 2;
-            ends += 1;
-        } else {
-            let g = put_value(words, pool, out, w, p, at);
-            w = g.word;
-            p = g.pool;
-            at = g.at;
-            left -= 1;
-        }
+        left -= 1;
     }
+    stand(w, p, at)
 }

@@ -1,12 +1,14 @@
-use mathlib.Core.Path.{_≡_, refl, sym, ap, _∙_}
-use Prim.Native.Nat.{_+_, _-_, _*_, _≤_}
+-- The walk by measure: a group's values stand two words on, so the words left fall from a value to the values in it, and a row is one above its own values.
+-- The loop's invariant is `Walking`: what the values that are left write, they write of the whole row; the count left falls. Each way out of a value is a law of Steps.
+use mathlib.Core.Path.{refl}
+use Prim.Native.Nat.{ℕ, _+_, _-_, _*_, _<_}
 use native.Mathlib.Omega.{arith}
+use lib.ListN.{length}
 use borrow.Author.Needs.{needs}
-use lib.ListN.{length, getD}
-use Rattle.write.proofs.Steps as laws
-use Prim.Native.Nat.{ℕ, _<_}
-use borrow.Fn.Kinds.{In}
+use borrow.Fn.Kinds.{In, Out}
 use borrow.Fn.PlainCycle.{Measures, is, falls, and}
+use Rattle.write.specs.Write.{standing}
+use Rattle.write.proofs.Steps as laws
 use Rattle.write.proofs.put_fields.Reads as put-fields
 use Rattle.write.proofs.put_fields.Kinds as put-fields-kinds
 use Rattle.write.proofs.+put_fields+put_value.Lts-put_fields as put-fields-lts
@@ -14,11 +16,8 @@ use Rattle.write.proofs.put_value.Reads as put-value
 use Rattle.write.proofs.put_value.Kinds as put-value-kinds
 use Rattle.write.proofs.+put_fields+put_value.Lts-put_value as put-value-lts
 use Rattle.write.proofs.count_of.Reads as count-of-reads
-use Rattle.write.proofs.last_group.Reads as last-group-reads
 use Rattle.write.proofs.open_group.Reads as open-group-reads
 use Rattle.write.proofs.put_byte.Reads as put-byte-reads
-use Rattle.write.proofs.put_ends.Reads as put-ends-reads
-use Rattle.write.proofs.put_plain.Reads as put-plain-reads
 use Rattle.write.proofs.put_scalar.Reads as put-scalar-reads
 use Rattle.write.proofs.run_of.Reads as run-of-reads
 use Rattle.write.proofs.stand.Reads as stand-reads
@@ -46,231 +45,232 @@ abbrev put-value-below : ℕ → In 3 put-value-kinds.ps
 put-value-below t =
     and 3 put-value-kinds.ps (falls 3 put-value-kinds.ps _<_ μ-put-value t) put-value.Pre
 
+-- ---- a row of values
+
+abbrev put-fields-claims : ℕ → put-fields-lts.Claims
+put-fields-claims t = (put-value-below t, put-value.Post, stand-reads.Asked, stand-reads.Learnt)
+
 abbrev put-fields-Inv-loop : put-fields-lts.InvT-loop
-put-fields-Inv-loop words pool out₀ word from start count w₀ p₀ at₀ left₀ ends₀ out w p at left ends =
-    laws.Walking words pool word from start count out₀ w p at left ends out
+put-fields-Inv-loop words pool out₀ word from start count depth w₀ p₀ at₀ left₀ out w p at left =
+    laws.Walking words pool (standing word from start) count depth out₀ (standing w p at) left out
 
 abbrev put-fields-μ-loop : put-fields-lts.MeasureT-loop
-put-fields-μ-loop words pool out₀ word from start count w₀ p₀ at₀ left₀ ends₀ out w p at left ends =
-    18446744073709551616 * (length words - w) + left
+put-fields-μ-loop words pool out₀ word from start count depth w₀ p₀ at₀ left₀ out w p at left = left
 
-put-fields-loop-holds : (t : ℕ) → put-fields-lts.Need-loop-holds (put-plain-reads.Asked, put-plain-reads.Learnt, put-ends-reads.Asked, put-ends-reads.Learnt, stand-reads.Asked, stand-reads.Learnt, last-group-reads.Asked, last-group-reads.Learnt, open-group-reads.Asked, open-group-reads.Learnt, count-of-reads.Asked, count-of-reads.Learnt, put-value-below t, put-value.Post) (put-fields-at t) put-fields.Post put-fields-Inv-loop put-fields-μ-loop
-put-fields-loop-holds t c = laws.walk-start (c .before .before .before .args .words .now) (c .before .before .before .args .pool .now) (c .before .before .before .args .word) (c .before .before .before .args .from) (c .before .before .before .args .start) (c .before .before .before .args .count) (c .before .before .before .args .out .now) (c .before .before .before .pre .1 .word-in) (c .before .before .before .pre .1 .pool-in) (c .before .before .before .pre .1 .at-in)
+abbrev put-fields-need : (put-fields-lts.Claims → In 3 put-fields-kinds.ps → Out 3 put-fields-kinds.ps put-fields-kinds.r → put-fields-lts.InvT-loop → put-fields-lts.MeasureT-loop → Type 0) → Type 0
+put-fields-need N = (t : ℕ) → N (put-fields-claims t) (put-fields-at t) put-fields.Post put-fields-Inv-loop put-fields-μ-loop
 
-put-fields-put-plain-requires : (t : ℕ) → put-fields-lts.Need-put-plain-requires (put-plain-reads.Asked, put-plain-reads.Learnt, put-ends-reads.Asked, put-ends-reads.Learnt, stand-reads.Asked, stand-reads.Learnt, last-group-reads.Asked, last-group-reads.Learnt, open-group-reads.Asked, open-group-reads.Learnt, count-of-reads.Asked, count-of-reads.Learnt, put-value-below t, put-value.Post) (put-fields-at t) put-fields.Post put-fields-Inv-loop put-fields-μ-loop
-put-fields-put-plain-requires t c κs = record { word-in = c .before .loop .inv .word-in; pool-in = c .before .loop .inv .pool-in; at-in = omega (arith, c .before .loop .inv .at-in, c .before .loop .inv .kept) }
+put-fields-loop-holds : put-fields-need put-fields-lts.Need-loop-holds
+put-fields-loop-holds t c = laws.walk-start (c .before .before .before .pre .1)
 
-put-fields-put-ends-requires : (t : ℕ) → put-fields-lts.Need-put-ends-requires (put-plain-reads.Asked, put-plain-reads.Learnt, put-ends-reads.Asked, put-ends-reads.Learnt, stand-reads.Asked, stand-reads.Learnt, last-group-reads.Asked, last-group-reads.Learnt, open-group-reads.Asked, open-group-reads.Learnt, count-of-reads.Asked, count-of-reads.Learnt, put-value-below t, put-value.Post) (put-fields-at t) put-fields.Post put-fields-Inv-loop put-fields-μ-loop
-put-fields-put-ends-requires t c κs = omega (arith, (laws.walk-plain (c .before .before .before .before .before .before .before .before .before .before .args .words .now) (c .before .before .before .before .before .before .before .before .before .before .args .pool .now) (c .before .before .before .before .before .before .before .before .before .before .args .word) (c .before .before .before .before .before .before .before .before .before .before .args .from) (c .before .before .before .before .before .before .before .before .before .before .args .start) (c .before .before .before .before .before .before .before .before .before .before .args .count) (c .before .before .before .before .before .before .before .before .before .before .args .out .now) (c .before .before .before .before .before .before .loop .w) (c .before .before .before .before .before .before .loop .p) (c .before .before .before .before .before .before .loop .at) (c .before .before .before .before .before .before .loop .left) (c .before .before .before .before .before .before .loop .ends) (c .before .before .before .before .before .before .loop .out) (c .before .before .before .before .before .before .loop .inv) (c .before .before .before .before .put-plain .result) _ (c .before .before .before .before .put-plain .ensures)) .at-in, (laws.walk-plain (c .before .before .before .before .before .before .before .before .before .before .args .words .now) (c .before .before .before .before .before .before .before .before .before .before .args .pool .now) (c .before .before .before .before .before .before .before .before .before .before .args .word) (c .before .before .before .before .before .before .before .before .before .before .args .from) (c .before .before .before .before .before .before .before .before .before .before .args .start) (c .before .before .before .before .before .before .before .before .before .before .args .count) (c .before .before .before .before .before .before .before .before .before .before .args .out .now) (c .before .before .before .before .before .before .loop .w) (c .before .before .before .before .before .before .loop .p) (c .before .before .before .before .before .before .loop .at) (c .before .before .before .before .before .before .loop .left) (c .before .before .before .before .before .before .loop .ends) (c .before .before .before .before .before .before .loop .out) (c .before .before .before .before .before .before .loop .inv) (c .before .before .before .before .put-plain .result) _ (c .before .before .before .before .put-plain .ensures)) .kept)
+put-fields-put-value-requires : put-fields-need put-fields-lts.Need-put-value-requires
+put-fields-put-value-requires t c κs =
+    let l = c .before .before in
+    let s = l .before .before .before .before in
+    (omega (arith, s .pre .0, l .loop .inv .onward .on), laws.walk-ready (l .loop .inv) (s .pre .1 .deep))
 
-put-fields-stand-requires : (t : ℕ) → put-fields-lts.Need-stand-requires (put-plain-reads.Asked, put-plain-reads.Learnt, put-ends-reads.Asked, put-ends-reads.Learnt, stand-reads.Asked, stand-reads.Learnt, last-group-reads.Asked, last-group-reads.Learnt, open-group-reads.Asked, open-group-reads.Learnt, count-of-reads.Asked, count-of-reads.Learnt, put-value-below t, put-value.Post) (put-fields-at t) put-fields.Post put-fields-Inv-loop put-fields-μ-loop
+put-fields-sub-left : put-fields-need put-fields-lts.Need-sub-left
+put-fields-sub-left t c = search needs
+
+put-fields-loop-less : put-fields-need put-fields-lts.Need-loop-less
+put-fields-loop-less t c = search needs
+
+put-fields-loop-again : put-fields-need put-fields-lts.Need-loop-again
+put-fields-loop-again t c =
+    let v = c .before .before in
+    let l = v .before .before in
+    laws.walk-value (l .before .loop .inv) (l .loop-test .taken) (v .put-value .ensures)
+
+put-fields-stand-requires : put-fields-need put-fields-lts.Need-stand-requires
 put-fields-stand-requires t c κs = search needs
 
-put-fields-same-length : (t : ℕ) → put-fields-lts.Need-same-length (put-plain-reads.Asked, put-plain-reads.Learnt, put-ends-reads.Asked, put-ends-reads.Learnt, stand-reads.Asked, stand-reads.Learnt, last-group-reads.Asked, last-group-reads.Learnt, open-group-reads.Asked, open-group-reads.Learnt, count-of-reads.Asked, count-of-reads.Learnt, put-value-below t, put-value.Post) (put-fields-at t) put-fields.Post put-fields-Inv-loop put-fields-μ-loop
-put-fields-same-length t c = c .before .before .before .put-ends .ensures .kept ∙ (laws.walk-plain (c .before .before .before .before .before .before .before .before .before .before .before .before .before .before .args .words .now) (c .before .before .before .before .before .before .before .before .before .before .before .before .before .before .args .pool .now) (c .before .before .before .before .before .before .before .before .before .before .before .before .before .before .args .word) (c .before .before .before .before .before .before .before .before .before .before .before .before .before .before .args .from) (c .before .before .before .before .before .before .before .before .before .before .before .before .before .before .args .start) (c .before .before .before .before .before .before .before .before .before .before .before .before .before .before .args .count) (c .before .before .before .before .before .before .before .before .before .before .before .before .before .before .args .out .now) (c .before .before .before .before .before .before .before .before .before .before .loop .w) (c .before .before .before .before .before .before .before .before .before .before .loop .p) (c .before .before .before .before .before .before .before .before .before .before .loop .at) (c .before .before .before .before .before .before .before .before .before .before .loop .left) (c .before .before .before .before .before .before .before .before .before .before .loop .ends) (c .before .before .before .before .before .before .before .before .before .before .loop .out) (c .before .before .before .before .before .before .before .before .before .before .loop .inv) (c .before .before .before .before .before .before .before .before .put-plain .result) _ (c .before .before .before .before .before .before .before .before .put-plain .ensures)) .kept
+put-fields-same-length : put-fields-need put-fields-lts.Need-same-length
+put-fields-same-length t c = c .before .before .loop .inv .onward .kept
 
-put-fields-returns : (t : ℕ) → put-fields-lts.Need-returns (put-plain-reads.Asked, put-plain-reads.Learnt, put-ends-reads.Asked, put-ends-reads.Learnt, stand-reads.Asked, stand-reads.Learnt, last-group-reads.Asked, last-group-reads.Learnt, open-group-reads.Asked, open-group-reads.Learnt, count-of-reads.Asked, count-of-reads.Learnt, put-value-below t, put-value.Post) (put-fields-at t) put-fields.Post put-fields-Inv-loop put-fields-μ-loop
-put-fields-returns t c = rw (c .stand .ensures) (laws.walk-end (c .before .before .before .before .before .before .before .before .before .before .before .before .before .before .args .words .now) (c .before .before .before .before .before .before .before .before .before .before .before .before .before .before .args .pool .now) (c .before .before .before .before .before .before .before .before .before .before .before .before .before .before .args .word) (c .before .before .before .before .before .before .before .before .before .before .before .before .before .before .args .from) (c .before .before .before .before .before .before .before .before .before .before .before .before .before .before .args .start) (c .before .before .before .before .before .before .before .before .before .before .before .before .before .before .args .count) (c .before .before .before .before .before .before .before .before .before .before .before .before .before .before .args .out .now) (c .before .before .before .before .before .before .before .before .put-plain .result .word) (c .before .before .before .before .before .before .before .before .put-plain .result .pool) (c .before .before .before .before .before .before .before .before .put-plain .result .at) (c .before .before .before .before .before .before .before .before .put-plain .result .left) (c .before .before .before .before .before .before .before .before .before .before .loop .ends) _ (laws.walk-plain (c .before .before .before .before .before .before .before .before .before .before .before .before .before .before .args .words .now) (c .before .before .before .before .before .before .before .before .before .before .before .before .before .before .args .pool .now) (c .before .before .before .before .before .before .before .before .before .before .before .before .before .before .args .word) (c .before .before .before .before .before .before .before .before .before .before .before .before .before .before .args .from) (c .before .before .before .before .before .before .before .before .before .before .before .before .before .before .args .start) (c .before .before .before .before .before .before .before .before .before .before .before .before .before .before .args .count) (c .before .before .before .before .before .before .before .before .before .before .before .before .before .before .args .out .now) (c .before .before .before .before .before .before .before .before .before .before .loop .w) (c .before .before .before .before .before .before .before .before .before .before .loop .p) (c .before .before .before .before .before .before .before .before .before .before .loop .at) (c .before .before .before .before .before .before .before .before .before .before .loop .left) (c .before .before .before .before .before .before .before .before .before .before .loop .ends) (c .before .before .before .before .before .before .before .before .before .before .loop .out) (c .before .before .before .before .before .before .before .before .before .before .loop .inv) (c .before .before .before .before .before .before .before .before .put-plain .result) _ (c .before .before .before .before .before .before .before .before .put-plain .ensures)) (c .before .before .before .put-ends .result) _ (c .before .before .before .before .before .if1 .taken) (c .before .before .before .put-ends .ensures))
+put-fields-returns : put-fields-need put-fields-lts.Need-returns
+put-fields-returns t c = rw (c .stand .ensures) (laws.walk-end (c .before .before .loop .inv) (c .before .loop-test .left))
 
-put-fields-last-group-requires : (t : ℕ) → put-fields-lts.Need-last-group-requires (put-plain-reads.Asked, put-plain-reads.Learnt, put-ends-reads.Asked, put-ends-reads.Learnt, stand-reads.Asked, stand-reads.Learnt, last-group-reads.Asked, last-group-reads.Learnt, open-group-reads.Asked, open-group-reads.Learnt, count-of-reads.Asked, count-of-reads.Learnt, put-value-below t, put-value.Post) (put-fields-at t) put-fields.Post put-fields-Inv-loop put-fields-μ-loop
-put-fields-last-group-requires t c κs = search needs
+-- ---- a value
 
-put-fields-mul-kind : (t : ℕ) → put-fields-lts.Need-mul-kind (put-plain-reads.Asked, put-plain-reads.Learnt, put-ends-reads.Asked, put-ends-reads.Learnt, stand-reads.Asked, stand-reads.Learnt, last-group-reads.Asked, last-group-reads.Learnt, open-group-reads.Asked, open-group-reads.Learnt, count-of-reads.Asked, count-of-reads.Learnt, put-value-below t, put-value.Post) (put-fields-at t) put-fields.Post put-fields-Inv-loop put-fields-μ-loop
-put-fields-mul-kind t c = search needs
+abbrev put-value-claims : ℕ → put-value-lts.Claims
+put-value-claims t = (
+  stand-reads.Asked,
+  stand-reads.Learnt,
+  run-of-reads.Asked,
+  run-of-reads.Learnt,
+  put-scalar-reads.Asked,
+  put-scalar-reads.Learnt,
+  open-group-reads.Asked,
+  open-group-reads.Learnt,
+  count-of-reads.Asked,
+  count-of-reads.Learnt,
+  put-fields-below t,
+  put-fields.Post,
+  put-byte-reads.Asked,
+  put-byte-reads.Learnt,
+)
 
-put-fields-shared-slice-read-kind : (t : ℕ) → put-fields-lts.Need-shared-slice-read-kind (put-plain-reads.Asked, put-plain-reads.Learnt, put-ends-reads.Asked, put-ends-reads.Learnt, stand-reads.Asked, stand-reads.Learnt, last-group-reads.Asked, last-group-reads.Learnt, open-group-reads.Asked, open-group-reads.Learnt, count-of-reads.Asked, count-of-reads.Learnt, put-value-below t, put-value.Post) (put-fields-at t) put-fields.Post put-fields-Inv-loop put-fields-μ-loop
-put-fields-shared-slice-read-kind t c = omega (arith, c .before .before .last-group .ensures (c .before .if2 .taken))
+abbrev put-value-need : (put-value-lts.Claims → In 3 put-value-kinds.ps → Out 3 put-value-kinds.ps put-value-kinds.r → Type 0) → Type 0
+put-value-need N = (t : ℕ) → N (put-value-claims t) (put-value-at t) put-value.Post
 
-put-fields-add-tag : (t : ℕ) → put-fields-lts.Need-add-tag (put-plain-reads.Asked, put-plain-reads.Learnt, put-ends-reads.Asked, put-ends-reads.Learnt, stand-reads.Asked, stand-reads.Learnt, last-group-reads.Asked, last-group-reads.Learnt, open-group-reads.Asked, open-group-reads.Learnt, count-of-reads.Asked, count-of-reads.Learnt, put-value-below t, put-value.Post) (put-fields-at t) put-fields.Post put-fields-Inv-loop put-fields-μ-loop
-put-fields-add-tag t c = omega (arith, c .before .before .last-group .ensures (c .before .if2 .taken))
-
-put-fields-mul-tag : (t : ℕ) → put-fields-lts.Need-mul-tag (put-plain-reads.Asked, put-plain-reads.Learnt, put-ends-reads.Asked, put-ends-reads.Learnt, stand-reads.Asked, stand-reads.Learnt, last-group-reads.Asked, last-group-reads.Learnt, open-group-reads.Asked, open-group-reads.Learnt, count-of-reads.Asked, count-of-reads.Learnt, put-value-below t, put-value.Post) (put-fields-at t) put-fields.Post put-fields-Inv-loop put-fields-μ-loop
-put-fields-mul-tag t c = omega (arith, c .before .before .last-group .ensures (c .before .if2 .taken))
-
-put-fields-shared-slice-read-tag : (t : ℕ) → put-fields-lts.Need-shared-slice-read-tag (put-plain-reads.Asked, put-plain-reads.Learnt, put-ends-reads.Asked, put-ends-reads.Learnt, stand-reads.Asked, stand-reads.Learnt, last-group-reads.Asked, last-group-reads.Learnt, open-group-reads.Asked, open-group-reads.Learnt, count-of-reads.Asked, count-of-reads.Learnt, put-value-below t, put-value.Post) (put-fields-at t) put-fields.Post put-fields-Inv-loop put-fields-μ-loop
-put-fields-shared-slice-read-tag t c = omega (arith, c .before .before .before .last-group .ensures (c .before .before .if2 .taken))
-
-put-fields-open-group-requires : (t : ℕ) → put-fields-lts.Need-open-group-requires (put-plain-reads.Asked, put-plain-reads.Learnt, put-ends-reads.Asked, put-ends-reads.Learnt, stand-reads.Asked, stand-reads.Learnt, last-group-reads.Asked, last-group-reads.Learnt, open-group-reads.Asked, open-group-reads.Learnt, count-of-reads.Asked, count-of-reads.Learnt, put-value-below t, put-value.Post) (put-fields-at t) put-fields.Post put-fields-Inv-loop put-fields-μ-loop
-put-fields-open-group-requires t c κs = omega (arith, (laws.walk-plain (c .before .before .before .before .before .before .before .before .before .before .before .before .before .before .args .words .now) (c .before .before .before .before .before .before .before .before .before .before .before .before .before .before .args .pool .now) (c .before .before .before .before .before .before .before .before .before .before .before .before .before .before .args .word) (c .before .before .before .before .before .before .before .before .before .before .before .before .before .before .args .from) (c .before .before .before .before .before .before .before .before .before .before .before .before .before .before .args .start) (c .before .before .before .before .before .before .before .before .before .before .before .before .before .before .args .count) (c .before .before .before .before .before .before .before .before .before .before .before .before .before .before .args .out .now) (c .before .before .before .before .before .before .before .before .before .before .loop .w) (c .before .before .before .before .before .before .before .before .before .before .loop .p) (c .before .before .before .before .before .before .before .before .before .before .loop .at) (c .before .before .before .before .before .before .before .before .before .before .loop .left) (c .before .before .before .before .before .before .before .before .before .before .loop .ends) (c .before .before .before .before .before .before .before .before .before .before .loop .out) (c .before .before .before .before .before .before .before .before .before .before .loop .inv) (c .before .before .before .before .before .before .before .before .put-plain .result) _ (c .before .before .before .before .before .before .before .before .put-plain .ensures)) .at-in, (laws.walk-plain (c .before .before .before .before .before .before .before .before .before .before .before .before .before .before .args .words .now) (c .before .before .before .before .before .before .before .before .before .before .before .before .before .before .args .pool .now) (c .before .before .before .before .before .before .before .before .before .before .before .before .before .before .args .word) (c .before .before .before .before .before .before .before .before .before .before .before .before .before .before .args .from) (c .before .before .before .before .before .before .before .before .before .before .before .before .before .before .args .start) (c .before .before .before .before .before .before .before .before .before .before .before .before .before .before .args .count) (c .before .before .before .before .before .before .before .before .before .before .before .before .before .before .args .out .now) (c .before .before .before .before .before .before .before .before .before .before .loop .w) (c .before .before .before .before .before .before .before .before .before .before .loop .p) (c .before .before .before .before .before .before .before .before .before .before .loop .at) (c .before .before .before .before .before .before .before .before .before .before .loop .left) (c .before .before .before .before .before .before .before .before .before .before .loop .ends) (c .before .before .before .before .before .before .before .before .before .before .loop .out) (c .before .before .before .before .before .before .before .before .before .before .loop .inv) (c .before .before .before .before .before .before .before .before .put-plain .result) _ (c .before .before .before .before .before .before .before .before .put-plain .ensures)) .kept)
-
-put-fields-count-of-requires : (t : ℕ) → put-fields-lts.Need-count-of-requires (put-plain-reads.Asked, put-plain-reads.Learnt, put-ends-reads.Asked, put-ends-reads.Learnt, stand-reads.Asked, stand-reads.Learnt, last-group-reads.Asked, last-group-reads.Learnt, open-group-reads.Asked, open-group-reads.Learnt, count-of-reads.Asked, count-of-reads.Learnt, put-value-below t, put-value.Post) (put-fields-at t) put-fields.Post put-fields-Inv-loop put-fields-μ-loop
-put-fields-count-of-requires t c κs = search needs
-
-put-fields-add-w : (t : ℕ) → put-fields-lts.Need-add-w (put-plain-reads.Asked, put-plain-reads.Learnt, put-ends-reads.Asked, put-ends-reads.Learnt, stand-reads.Asked, stand-reads.Learnt, last-group-reads.Asked, last-group-reads.Learnt, open-group-reads.Asked, open-group-reads.Learnt, count-of-reads.Asked, count-of-reads.Learnt, put-value-below t, put-value.Post) (put-fields-at t) put-fields.Post put-fields-Inv-loop put-fields-μ-loop
-put-fields-add-w t c = omega (arith, c .before .before .before .before .before .before .before .before .last-group .ensures (c .before .before .before .before .before .before .before .if2 .taken))
-
-put-fields-add-ends : (t : ℕ) → put-fields-lts.Need-add-ends (put-plain-reads.Asked, put-plain-reads.Learnt, put-ends-reads.Asked, put-ends-reads.Learnt, stand-reads.Asked, stand-reads.Learnt, last-group-reads.Asked, last-group-reads.Learnt, open-group-reads.Asked, open-group-reads.Learnt, count-of-reads.Asked, count-of-reads.Learnt, put-value-below t, put-value.Post) (put-fields-at t) put-fields.Post put-fields-Inv-loop put-fields-μ-loop
-put-fields-add-ends t c = omega (arith, (laws.walk-plain (c .before .before .before .before .before .before .before .before .before .before .before .before .before .before .before .before .before .before .args .words .now) (c .before .before .before .before .before .before .before .before .before .before .before .before .before .before .before .before .before .before .args .pool .now) (c .before .before .before .before .before .before .before .before .before .before .before .before .before .before .before .before .before .before .args .word) (c .before .before .before .before .before .before .before .before .before .before .before .before .before .before .before .before .before .before .args .from) (c .before .before .before .before .before .before .before .before .before .before .before .before .before .before .before .before .before .before .args .start) (c .before .before .before .before .before .before .before .before .before .before .before .before .before .before .before .before .before .before .args .count) (c .before .before .before .before .before .before .before .before .before .before .before .before .before .before .before .before .before .before .args .out .now) (c .before .before .before .before .before .before .before .before .before .before .before .before .before .before .loop .w) (c .before .before .before .before .before .before .before .before .before .before .before .before .before .before .loop .p) (c .before .before .before .before .before .before .before .before .before .before .before .before .before .before .loop .at) (c .before .before .before .before .before .before .before .before .before .before .before .before .before .before .loop .left) (c .before .before .before .before .before .before .before .before .before .before .before .before .before .before .loop .ends) (c .before .before .before .before .before .before .before .before .before .before .before .before .before .before .loop .out) (c .before .before .before .before .before .before .before .before .before .before .before .before .before .before .loop .inv) (c .before .before .before .before .before .before .before .before .before .before .before .before .put-plain .result) _ (c .before .before .before .before .before .before .before .before .before .before .before .before .put-plain .ensures)) .on, (laws.walk-plain (c .before .before .before .before .before .before .before .before .before .before .before .before .before .before .before .before .before .before .args .words .now) (c .before .before .before .before .before .before .before .before .before .before .before .before .before .before .before .before .before .before .args .pool .now) (c .before .before .before .before .before .before .before .before .before .before .before .before .before .before .before .before .before .before .args .word) (c .before .before .before .before .before .before .before .before .before .before .before .before .before .before .before .before .before .before .args .from) (c .before .before .before .before .before .before .before .before .before .before .before .before .before .before .before .before .before .before .args .start) (c .before .before .before .before .before .before .before .before .before .before .before .before .before .before .before .before .before .before .args .count) (c .before .before .before .before .before .before .before .before .before .before .before .before .before .before .before .before .before .before .args .out .now) (c .before .before .before .before .before .before .before .before .before .before .before .before .before .before .loop .w) (c .before .before .before .before .before .before .before .before .before .before .before .before .before .before .loop .p) (c .before .before .before .before .before .before .before .before .before .before .before .before .before .before .loop .at) (c .before .before .before .before .before .before .before .before .before .before .before .before .before .before .loop .left) (c .before .before .before .before .before .before .before .before .before .before .before .before .before .before .loop .ends) (c .before .before .before .before .before .before .before .before .before .before .before .before .before .before .loop .out) (c .before .before .before .before .before .before .before .before .before .before .before .before .before .before .loop .inv) (c .before .before .before .before .before .before .before .before .before .before .before .before .put-plain .result) _ (c .before .before .before .before .before .before .before .before .before .before .before .before .put-plain .ensures)) .word-in)
-
-put-fields-loop-less : (t : ℕ) → put-fields-lts.Need-loop-less (put-plain-reads.Asked, put-plain-reads.Learnt, put-ends-reads.Asked, put-ends-reads.Learnt, stand-reads.Asked, stand-reads.Learnt, last-group-reads.Asked, last-group-reads.Learnt, open-group-reads.Asked, open-group-reads.Learnt, count-of-reads.Asked, count-of-reads.Learnt, put-value-below t, put-value.Post) (put-fields-at t) put-fields.Post put-fields-Inv-loop put-fields-μ-loop
-put-fields-loop-less t c = omega (arith, c .before .before .before .before .before .before .before .before .last-group .ensures (c .before .before .before .before .before .before .before .if2 .taken), c .before .before .before .before .before .before .before .before .before .before .before .before .put-plain .ensures .onward .on, c .before .before .before .before .before .before .before .before .before .before .before .before .put-plain .ensures .fewer, c .count-of .ensures, laws.count-small (getD (c .before .before .before .before .before .before .before .before .before .before .before .before .before .before .before .before .before .before .args .words .now) (c .before .before .before .before .before .before .before .before .before .before .before .before .put-plain .result .word) 0) (getD (c .before .before .before .before .before .before .before .before .before .before .before .before .before .before .before .before .before .before .args .words .now) (c .before .before .before .before .before .before .before .before .before .before .before .before .put-plain .result .word + 1) 0), c .before .before .before .before .before .shared-slice-known4 .given (c .before .before .before .before .before .before .before .before .before .before .before .before .put-plain .result .word + 1))
-
-put-fields-loop-again : (t : ℕ) → put-fields-lts.Need-loop-again (put-plain-reads.Asked, put-plain-reads.Learnt, put-ends-reads.Asked, put-ends-reads.Learnt, stand-reads.Asked, stand-reads.Learnt, last-group-reads.Asked, last-group-reads.Learnt, open-group-reads.Asked, open-group-reads.Learnt, count-of-reads.Asked, count-of-reads.Learnt, put-value-below t, put-value.Post) (put-fields-at t) put-fields.Post put-fields-Inv-loop put-fields-μ-loop
-put-fields-loop-again t c = rw (c .count-of .ensures) (laws.walk-into (c .before .before .before .before .before .before .before .before .before .before .before .before .before .before .before .before .before .before .args .words .now) (c .before .before .before .before .before .before .before .before .before .before .before .before .before .before .before .before .before .before .args .pool .now) (c .before .before .before .before .before .before .before .before .before .before .before .before .before .before .before .before .before .before .args .word) (c .before .before .before .before .before .before .before .before .before .before .before .before .before .before .before .before .before .before .args .from) (c .before .before .before .before .before .before .before .before .before .before .before .before .before .before .before .before .before .before .args .start) (c .before .before .before .before .before .before .before .before .before .before .before .before .before .before .before .before .before .before .args .count) (c .before .before .before .before .before .before .before .before .before .before .before .before .before .before .before .before .before .before .args .out .now) (c .before .before .before .before .before .before .before .before .before .before .before .before .put-plain .result .word) (c .before .before .before .before .before .before .before .before .before .before .before .before .put-plain .result .pool) (c .before .before .before .before .before .before .before .before .before .before .before .before .put-plain .result .at) (c .before .before .before .before .before .before .before .before .before .before .before .before .put-plain .result .left) (c .before .before .before .before .before .before .before .before .before .before .before .before .before .before .loop .ends) _ (laws.walk-plain (c .before .before .before .before .before .before .before .before .before .before .before .before .before .before .before .before .before .before .args .words .now) (c .before .before .before .before .before .before .before .before .before .before .before .before .before .before .before .before .before .before .args .pool .now) (c .before .before .before .before .before .before .before .before .before .before .before .before .before .before .before .before .before .before .args .word) (c .before .before .before .before .before .before .before .before .before .before .before .before .before .before .before .before .before .before .args .from) (c .before .before .before .before .before .before .before .before .before .before .before .before .before .before .before .before .before .before .args .start) (c .before .before .before .before .before .before .before .before .before .before .before .before .before .before .before .before .before .before .args .count) (c .before .before .before .before .before .before .before .before .before .before .before .before .before .before .before .before .before .before .args .out .now) (c .before .before .before .before .before .before .before .before .before .before .before .before .before .before .loop .w) (c .before .before .before .before .before .before .before .before .before .before .before .before .before .before .loop .p) (c .before .before .before .before .before .before .before .before .before .before .before .before .before .before .loop .at) (c .before .before .before .before .before .before .before .before .before .before .before .before .before .before .loop .left) (c .before .before .before .before .before .before .before .before .before .before .before .before .before .before .loop .ends) (c .before .before .before .before .before .before .before .before .before .before .before .before .before .before .loop .out) (c .before .before .before .before .before .before .before .before .before .before .before .before .before .before .loop .inv) (c .before .before .before .before .before .before .before .before .before .before .before .before .put-plain .result) _ (c .before .before .before .before .before .before .before .before .before .before .before .before .put-plain .ensures)) _ _ (c .before .before .before .open-group .result) _ (c .before .before .before .before .before .before .before .before .last-group .ensures (c .before .before .before .before .before .before .before .if2 .taken) .0) (c .before .before .before .before .before .before .before .before .last-group .ensures (c .before .before .before .before .before .before .before .if2 .taken) .1) (omega (arith, c .before .before .before .before .before .before .before .before .last-group .ensures (c .before .before .before .before .before .before .before .if2 .taken) .2)) refl refl (c .before .before .before .open-group .ensures))
-
-put-fields-put-value-requires : (t : ℕ) → put-fields-lts.Need-put-value-requires (put-plain-reads.Asked, put-plain-reads.Learnt, put-ends-reads.Asked, put-ends-reads.Learnt, stand-reads.Asked, stand-reads.Learnt, last-group-reads.Asked, last-group-reads.Learnt, open-group-reads.Asked, open-group-reads.Learnt, count-of-reads.Asked, count-of-reads.Learnt, put-value-below t, put-value.Post) (put-fields-at t) put-fields.Post put-fields-Inv-loop put-fields-μ-loop
-put-fields-put-value-requires t c κs = (omega (arith, c .before .before .before .before .before .before .before .before .before .before .before .before .pre .0, (laws.walk-plain (c .before .before .before .before .before .before .before .before .before .before .before .before .args .words .now) (c .before .before .before .before .before .before .before .before .before .before .before .before .args .pool .now) (c .before .before .before .before .before .before .before .before .before .before .before .before .args .word) (c .before .before .before .before .before .before .before .before .before .before .before .before .args .from) (c .before .before .before .before .before .before .before .before .before .before .before .before .args .start) (c .before .before .before .before .before .before .before .before .before .before .before .before .args .count) (c .before .before .before .before .before .before .before .before .before .before .before .before .args .out .now) (c .before .before .before .before .before .before .before .before .loop .w) (c .before .before .before .before .before .before .before .before .loop .p) (c .before .before .before .before .before .before .before .before .loop .at) (c .before .before .before .before .before .before .before .before .loop .left) (c .before .before .before .before .before .before .before .before .loop .ends) (c .before .before .before .before .before .before .before .before .loop .out) (c .before .before .before .before .before .before .before .before .loop .inv) (c .before .before .before .before .before .before .put-plain .result) _ (c .before .before .before .before .before .before .put-plain .ensures)) .on, (laws.walk-plain (c .before .before .before .before .before .before .before .before .before .before .before .before .args .words .now) (c .before .before .before .before .before .before .before .before .before .before .before .before .args .pool .now) (c .before .before .before .before .before .before .before .before .before .before .before .before .args .word) (c .before .before .before .before .before .before .before .before .before .before .before .before .args .from) (c .before .before .before .before .before .before .before .before .before .before .before .before .args .start) (c .before .before .before .before .before .before .before .before .before .before .before .before .args .count) (c .before .before .before .before .before .before .before .before .before .before .before .before .args .out .now) (c .before .before .before .before .before .before .before .before .loop .w) (c .before .before .before .before .before .before .before .before .loop .p) (c .before .before .before .before .before .before .before .before .loop .at) (c .before .before .before .before .before .before .before .before .loop .left) (c .before .before .before .before .before .before .before .before .loop .ends) (c .before .before .before .before .before .before .before .before .loop .out) (c .before .before .before .before .before .before .before .before .loop .inv) (c .before .before .before .before .before .before .put-plain .result) _ (c .before .before .before .before .before .before .put-plain .ensures)) .word-in), record { word-in = (laws.walk-plain (c .before .before .before .before .before .before .before .before .before .before .before .before .args .words .now) (c .before .before .before .before .before .before .before .before .before .before .before .before .args .pool .now) (c .before .before .before .before .before .before .before .before .before .before .before .before .args .word) (c .before .before .before .before .before .before .before .before .before .before .before .before .args .from) (c .before .before .before .before .before .before .before .before .before .before .before .before .args .start) (c .before .before .before .before .before .before .before .before .before .before .before .before .args .count) (c .before .before .before .before .before .before .before .before .before .before .before .before .args .out .now) (c .before .before .before .before .before .before .before .before .loop .w) (c .before .before .before .before .before .before .before .before .loop .p) (c .before .before .before .before .before .before .before .before .loop .at) (c .before .before .before .before .before .before .before .before .loop .left) (c .before .before .before .before .before .before .before .before .loop .ends) (c .before .before .before .before .before .before .before .before .loop .out) (c .before .before .before .before .before .before .before .before .loop .inv) (c .before .before .before .before .before .before .put-plain .result) _ (c .before .before .before .before .before .before .put-plain .ensures)) .word-in; pool-in = (laws.walk-plain (c .before .before .before .before .before .before .before .before .before .before .before .before .args .words .now) (c .before .before .before .before .before .before .before .before .before .before .before .before .args .pool .now) (c .before .before .before .before .before .before .before .before .before .before .before .before .args .word) (c .before .before .before .before .before .before .before .before .before .before .before .before .args .from) (c .before .before .before .before .before .before .before .before .before .before .before .before .args .start) (c .before .before .before .before .before .before .before .before .before .before .before .before .args .count) (c .before .before .before .before .before .before .before .before .before .before .before .before .args .out .now) (c .before .before .before .before .before .before .before .before .loop .w) (c .before .before .before .before .before .before .before .before .loop .p) (c .before .before .before .before .before .before .before .before .loop .at) (c .before .before .before .before .before .before .before .before .loop .left) (c .before .before .before .before .before .before .before .before .loop .ends) (c .before .before .before .before .before .before .before .before .loop .out) (c .before .before .before .before .before .before .before .before .loop .inv) (c .before .before .before .before .before .before .put-plain .result) _ (c .before .before .before .before .before .before .put-plain .ensures)) .pool-in; at-in = omega (arith, (laws.walk-plain (c .before .before .before .before .before .before .before .before .before .before .before .before .args .words .now) (c .before .before .before .before .before .before .before .before .before .before .before .before .args .pool .now) (c .before .before .before .before .before .before .before .before .before .before .before .before .args .word) (c .before .before .before .before .before .before .before .before .before .before .before .before .args .from) (c .before .before .before .before .before .before .before .before .before .before .before .before .args .start) (c .before .before .before .before .before .before .before .before .before .before .before .before .args .count) (c .before .before .before .before .before .before .before .before .before .before .before .before .args .out .now) (c .before .before .before .before .before .before .before .before .loop .w) (c .before .before .before .before .before .before .before .before .loop .p) (c .before .before .before .before .before .before .before .before .loop .at) (c .before .before .before .before .before .before .before .before .loop .left) (c .before .before .before .before .before .before .before .before .loop .ends) (c .before .before .before .before .before .before .before .before .loop .out) (c .before .before .before .before .before .before .before .before .loop .inv) (c .before .before .before .before .before .before .put-plain .result) _ (c .before .before .before .before .before .before .put-plain .ensures)) .at-in, (laws.walk-plain (c .before .before .before .before .before .before .before .before .before .before .before .before .args .words .now) (c .before .before .before .before .before .before .before .before .before .before .before .before .args .pool .now) (c .before .before .before .before .before .before .before .before .before .before .before .before .args .word) (c .before .before .before .before .before .before .before .before .before .before .before .before .args .from) (c .before .before .before .before .before .before .before .before .before .before .before .before .args .start) (c .before .before .before .before .before .before .before .before .before .before .before .before .args .count) (c .before .before .before .before .before .before .before .before .before .before .before .before .args .out .now) (c .before .before .before .before .before .before .before .before .loop .w) (c .before .before .before .before .before .before .before .before .loop .p) (c .before .before .before .before .before .before .before .before .loop .at) (c .before .before .before .before .before .before .before .before .loop .left) (c .before .before .before .before .before .before .before .before .loop .ends) (c .before .before .before .before .before .before .before .before .loop .out) (c .before .before .before .before .before .before .before .before .loop .inv) (c .before .before .before .before .before .before .put-plain .result) _ (c .before .before .before .before .before .before .put-plain .ensures)) .kept) })
-
-put-fields-sub-left : (t : ℕ) → put-fields-lts.Need-sub-left (put-plain-reads.Asked, put-plain-reads.Learnt, put-ends-reads.Asked, put-ends-reads.Learnt, stand-reads.Asked, stand-reads.Learnt, last-group-reads.Asked, last-group-reads.Learnt, open-group-reads.Asked, open-group-reads.Learnt, count-of-reads.Asked, count-of-reads.Learnt, put-value-below t, put-value.Post) (put-fields-at t) put-fields.Post put-fields-Inv-loop put-fields-μ-loop
-put-fields-sub-left t c = omega (arith, c .before .before .before .before .before .before .if1 .left)
-
-put-fields-loop-less-2 : (t : ℕ) → put-fields-lts.Need-loop-less-2 (put-plain-reads.Asked, put-plain-reads.Learnt, put-ends-reads.Asked, put-ends-reads.Learnt, stand-reads.Asked, stand-reads.Learnt, last-group-reads.Asked, last-group-reads.Learnt, open-group-reads.Asked, open-group-reads.Learnt, count-of-reads.Asked, count-of-reads.Learnt, put-value-below t, put-value.Post) (put-fields-at t) put-fields.Post put-fields-Inv-loop put-fields-μ-loop
-put-fields-loop-less-2 t c = omega (arith, c .before .before .before .before .before .before .if1 .left, c .before .before .put-value .ensures .onward .on, c .before .before .before .before .before .before .before .before .before .put-plain .ensures .onward .on, c .before .before .before .before .before .before .before .before .before .put-plain .ensures .fewer)
-
-put-fields-loop-again-2 : (t : ℕ) → put-fields-lts.Need-loop-again-2 (put-plain-reads.Asked, put-plain-reads.Learnt, put-ends-reads.Asked, put-ends-reads.Learnt, stand-reads.Asked, stand-reads.Learnt, last-group-reads.Asked, last-group-reads.Learnt, open-group-reads.Asked, open-group-reads.Learnt, count-of-reads.Asked, count-of-reads.Learnt, put-value-below t, put-value.Post) (put-fields-at t) put-fields.Post put-fields-Inv-loop put-fields-μ-loop
-put-fields-loop-again-2 t c = laws.walk-value (c .before .before .before .before .before .before .before .before .before .before .before .before .before .before .before .args .words .now) (c .before .before .before .before .before .before .before .before .before .before .before .before .before .before .before .args .pool .now) (c .before .before .before .before .before .before .before .before .before .before .before .before .before .before .before .args .word) (c .before .before .before .before .before .before .before .before .before .before .before .before .before .before .before .args .from) (c .before .before .before .before .before .before .before .before .before .before .before .before .before .before .before .args .start) (c .before .before .before .before .before .before .before .before .before .before .before .before .before .before .before .args .count) (c .before .before .before .before .before .before .before .before .before .before .before .before .before .before .before .args .out .now) (c .before .before .before .before .before .before .before .before .before .put-plain .result .word) (c .before .before .before .before .before .before .before .before .before .put-plain .result .pool) (c .before .before .before .before .before .before .before .before .before .put-plain .result .at) (c .before .before .before .before .before .before .before .before .before .put-plain .result .left) (c .before .before .before .before .before .before .before .before .before .before .before .loop .ends) _ (laws.walk-plain (c .before .before .before .before .before .before .before .before .before .before .before .before .before .before .before .args .words .now) (c .before .before .before .before .before .before .before .before .before .before .before .before .before .before .before .args .pool .now) (c .before .before .before .before .before .before .before .before .before .before .before .before .before .before .before .args .word) (c .before .before .before .before .before .before .before .before .before .before .before .before .before .before .before .args .from) (c .before .before .before .before .before .before .before .before .before .before .before .before .before .before .before .args .start) (c .before .before .before .before .before .before .before .before .before .before .before .before .before .before .before .args .count) (c .before .before .before .before .before .before .before .before .before .before .before .before .before .before .before .args .out .now) (c .before .before .before .before .before .before .before .before .before .before .before .loop .w) (c .before .before .before .before .before .before .before .before .before .before .before .loop .p) (c .before .before .before .before .before .before .before .before .before .before .before .loop .at) (c .before .before .before .before .before .before .before .before .before .before .before .loop .left) (c .before .before .before .before .before .before .before .before .before .before .before .loop .ends) (c .before .before .before .before .before .before .before .before .before .before .before .loop .out) (c .before .before .before .before .before .before .before .before .before .before .before .loop .inv) (c .before .before .before .before .before .before .before .before .before .put-plain .result) _ (c .before .before .before .before .before .before .before .before .before .put-plain .ensures)) (c .before .before .put-value .result) _ (c .before .before .before .before .before .before .if1 .left) (c .before .before .put-value .ensures)
-
-put-value-sub-if1 : (t : ℕ) → put-value-lts.Need-sub-if1 (stand-reads.Asked, stand-reads.Learnt, run-of-reads.Asked, run-of-reads.Learnt, put-scalar-reads.Asked, put-scalar-reads.Learnt, open-group-reads.Asked, open-group-reads.Learnt, count-of-reads.Asked, count-of-reads.Learnt, put-fields-below t, put-fields.Post, put-byte-reads.Asked, put-byte-reads.Learnt) (put-value-at t) put-value.Post
-put-value-sub-if1 t c = omega (arith, c .before .before .before .pre .1 .word-in)
-
-put-value-stand-requires : (t : ℕ) → put-value-lts.Need-stand-requires (stand-reads.Asked, stand-reads.Learnt, run-of-reads.Asked, run-of-reads.Learnt, put-scalar-reads.Asked, put-scalar-reads.Learnt, open-group-reads.Asked, open-group-reads.Learnt, count-of-reads.Asked, count-of-reads.Learnt, put-fields-below t, put-fields.Post, put-byte-reads.Asked, put-byte-reads.Learnt) (put-value-at t) put-value.Post
+put-value-stand-requires : put-value-need put-value-lts.Need-stand-requires
 put-value-stand-requires t c κs = search needs
 
-put-value-returns : (t : ℕ) → put-value-lts.Need-returns (stand-reads.Asked, stand-reads.Learnt, run-of-reads.Asked, run-of-reads.Learnt, put-scalar-reads.Asked, put-scalar-reads.Learnt, open-group-reads.Asked, open-group-reads.Learnt, count-of-reads.Asked, count-of-reads.Learnt, put-fields-below t, put-fields.Post, put-byte-reads.Asked, put-byte-reads.Learnt) (put-value-at t) put-value.Post
-put-value-returns t c = rw (c .stand .ensures) (record { onward = record { on = omega arith; word-in = c .before .before .before .before .before .pre .1 .word-in; pool-in = c .before .before .before .before .before .pre .1 .pool-in; at-in = c .before .before .before .before .before .pre .1 .at-in; kept = refl }; says = laws.short (c .before .before .before .before .before .args .words .now) (c .before .before .before .before .before .args .pool .now) (c .before .before .before .before .before .args .word) (c .before .before .before .before .before .args .from) (c .before .before .before .before .before .args .at) (c .before .before .before .before .before .args .out .now) _ _ (c .before .if1 .taken) })
+put-value-returns : put-value-need put-value-lts.Need-returns
+put-value-returns t c =
+    let i = c .before in
+    rw (c .stand .ensures) (laws.past (i .before .before .before .before .pre .1) (i .if1 .taken))
 
-put-value-mul-kind : (t : ℕ) → put-value-lts.Need-mul-kind (stand-reads.Asked, stand-reads.Learnt, run-of-reads.Asked, run-of-reads.Learnt, put-scalar-reads.Asked, put-scalar-reads.Learnt, open-group-reads.Asked, open-group-reads.Learnt, count-of-reads.Asked, count-of-reads.Learnt, put-fields-below t, put-fields.Post, put-byte-reads.Asked, put-byte-reads.Learnt) (put-value-at t) put-value.Post
+put-value-mul-kind : put-value-need put-value-lts.Need-mul-kind
 put-value-mul-kind t c = search needs
 
-put-value-shared-slice-read-kind : (t : ℕ) → put-value-lts.Need-shared-slice-read-kind (stand-reads.Asked, stand-reads.Learnt, run-of-reads.Asked, run-of-reads.Learnt, put-scalar-reads.Asked, put-scalar-reads.Learnt, open-group-reads.Asked, open-group-reads.Learnt, count-of-reads.Asked, count-of-reads.Learnt, put-fields-below t, put-fields.Post, put-byte-reads.Asked, put-byte-reads.Learnt) (put-value-at t) put-value.Post
+put-value-shared-slice-read-kind : put-value-need put-value-lts.Need-shared-slice-read-kind
 put-value-shared-slice-read-kind t c = search needs
 
-put-value-add-x : (t : ℕ) → put-value-lts.Need-add-x (stand-reads.Asked, stand-reads.Learnt, run-of-reads.Asked, run-of-reads.Learnt, put-scalar-reads.Asked, put-scalar-reads.Learnt, open-group-reads.Asked, open-group-reads.Learnt, count-of-reads.Asked, count-of-reads.Learnt, put-fields-below t, put-fields.Post, put-byte-reads.Asked, put-byte-reads.Learnt) (put-value-at t) put-value.Post
-put-value-add-x t c = search needs
+put-value-sub-if2 : put-value-need put-value-lts.Need-sub-if2
+put-value-sub-if2 t c = search needs
 
-put-value-mul-x : (t : ℕ) → put-value-lts.Need-mul-x (stand-reads.Asked, stand-reads.Learnt, run-of-reads.Asked, run-of-reads.Learnt, put-scalar-reads.Asked, put-scalar-reads.Learnt, open-group-reads.Asked, open-group-reads.Learnt, count-of-reads.Asked, count-of-reads.Learnt, put-fields-below t, put-fields.Post, put-byte-reads.Asked, put-byte-reads.Learnt) (put-value-at t) put-value.Post
-put-value-mul-x t c = search needs
-
-put-value-shared-slice-read-x : (t : ℕ) → put-value-lts.Need-shared-slice-read-x (stand-reads.Asked, stand-reads.Learnt, run-of-reads.Asked, run-of-reads.Learnt, put-scalar-reads.Asked, put-scalar-reads.Learnt, open-group-reads.Asked, open-group-reads.Learnt, count-of-reads.Asked, count-of-reads.Learnt, put-fields-below t, put-fields.Post, put-byte-reads.Asked, put-byte-reads.Learnt) (put-value-at t) put-value.Post
-put-value-shared-slice-read-x t c = search needs
-
-put-value-run-of-requires : (t : ℕ) → put-value-lts.Need-run-of-requires (stand-reads.Asked, stand-reads.Learnt, run-of-reads.Asked, run-of-reads.Learnt, put-scalar-reads.Asked, put-scalar-reads.Learnt, open-group-reads.Asked, open-group-reads.Learnt, count-of-reads.Asked, count-of-reads.Learnt, put-fields-below t, put-fields.Post, put-byte-reads.Asked, put-byte-reads.Learnt) (put-value-at t) put-value.Post
-put-value-run-of-requires t c κs = search needs
-
-put-value-sub-if3 : (t : ℕ) → put-value-lts.Need-sub-if3 (stand-reads.Asked, stand-reads.Learnt, run-of-reads.Asked, run-of-reads.Learnt, put-scalar-reads.Asked, put-scalar-reads.Learnt, open-group-reads.Asked, open-group-reads.Learnt, count-of-reads.Asked, count-of-reads.Learnt, put-fields-below t, put-fields.Post, put-byte-reads.Asked, put-byte-reads.Learnt) (put-value-at t) put-value.Post
-put-value-sub-if3 t c = omega (arith, c .before .before .before .before .before .before .before .before .pre .1 .pool-in)
-
-put-value-stand-requires-2 : (t : ℕ) → put-value-lts.Need-stand-requires-2 (stand-reads.Asked, stand-reads.Learnt, run-of-reads.Asked, run-of-reads.Learnt, put-scalar-reads.Asked, put-scalar-reads.Learnt, open-group-reads.Asked, open-group-reads.Learnt, count-of-reads.Asked, count-of-reads.Learnt, put-fields-below t, put-fields.Post, put-byte-reads.Asked, put-byte-reads.Learnt) (put-value-at t) put-value.Post
+put-value-stand-requires-2 : put-value-need put-value-lts.Need-stand-requires-2
 put-value-stand-requires-2 t c κs = search needs
 
-put-value-returns-2 : (t : ℕ) → put-value-lts.Need-returns-2 (stand-reads.Asked, stand-reads.Learnt, run-of-reads.Asked, run-of-reads.Learnt, put-scalar-reads.Asked, put-scalar-reads.Learnt, open-group-reads.Asked, open-group-reads.Learnt, count-of-reads.Asked, count-of-reads.Learnt, put-fields-below t, put-fields.Post, put-byte-reads.Asked, put-byte-reads.Learnt) (put-value-at t) put-value.Post
-put-value-returns-2 t c = rw (c .stand2 .ensures) (record { onward = record { on = omega arith; word-in = c .before .before .before .before .before .before .before .before .before .before .pre .1 .word-in; pool-in = c .before .before .before .before .before .before .before .before .before .before .pre .1 .pool-in; at-in = c .before .before .before .before .before .before .before .before .before .before .pre .1 .at-in; kept = refl }; says = laws.too-long (c .before .before .before .before .before .before .before .before .before .before .args .words .now) (c .before .before .before .before .before .before .before .before .before .before .args .pool .now) (c .before .before .before .before .before .before .before .before .before .before .args .word) (c .before .before .before .before .before .before .before .before .before .before .args .from) (c .before .before .before .before .before .before .before .before .before .before .args .at) (c .before .before .before .before .before .before .before .before .before .before .args .out .now) _ _ _ _ refl refl (c .before .before .before .if2 .taken) (omega (arith, c .before .before .run-of .ensures, c .before .if3 .taken)) })
+put-value-returns-2 : put-value-need put-value-lts.Need-returns-2
+put-value-returns-2 t c =
+    let i = c .before in
+    let s = i .before .before .before .before .before .before in
+    rw (c .stand2 .ensures) (laws.short (s .pre .1) (i .if2 .taken))
 
-put-value-add-put-scalar : (t : ℕ) → put-value-lts.Need-add-put-scalar (stand-reads.Asked, stand-reads.Learnt, run-of-reads.Asked, run-of-reads.Learnt, put-scalar-reads.Asked, put-scalar-reads.Learnt, open-group-reads.Asked, open-group-reads.Learnt, count-of-reads.Asked, count-of-reads.Learnt, put-fields-below t, put-fields.Post, put-byte-reads.Asked, put-byte-reads.Learnt) (put-value-at t) put-value.Post
-put-value-add-put-scalar t c = search needs
+put-value-add-x : put-value-need put-value-lts.Need-add-x
+put-value-add-x t c = search needs
 
-put-value-put-scalar-requires : (t : ℕ) → put-value-lts.Need-put-scalar-requires (stand-reads.Asked, stand-reads.Learnt, run-of-reads.Asked, run-of-reads.Learnt, put-scalar-reads.Asked, put-scalar-reads.Learnt, open-group-reads.Asked, open-group-reads.Learnt, count-of-reads.Asked, count-of-reads.Learnt, put-fields-below t, put-fields.Post, put-byte-reads.Asked, put-byte-reads.Learnt) (put-value-at t) put-value.Post
-put-value-put-scalar-requires t c κs = (omega (arith, c .before .before .before .before .before .before .before .before .before .before .pre .1 .at-in), omega arith, omega (arith, c .before .before .before .before .before .before .before .before .before .before .pre .1 .pool-in))
+put-value-mul-x : put-value-need put-value-lts.Need-mul-x
+put-value-mul-x t c = search needs
 
-put-value-add-stand : (t : ℕ) → put-value-lts.Need-add-stand (stand-reads.Asked, stand-reads.Learnt, run-of-reads.Asked, run-of-reads.Learnt, put-scalar-reads.Asked, put-scalar-reads.Learnt, open-group-reads.Asked, open-group-reads.Learnt, count-of-reads.Asked, count-of-reads.Learnt, put-fields-below t, put-fields.Post, put-byte-reads.Asked, put-byte-reads.Learnt) (put-value-at t) put-value.Post
-put-value-add-stand t c = search needs
+put-value-shared-slice-read-x : put-value-need put-value-lts.Need-shared-slice-read-x
+put-value-shared-slice-read-x t c = search needs
 
-put-value-add-stand-2 : (t : ℕ) → put-value-lts.Need-add-stand-2 (stand-reads.Asked, stand-reads.Learnt, run-of-reads.Asked, run-of-reads.Learnt, put-scalar-reads.Asked, put-scalar-reads.Learnt, open-group-reads.Asked, open-group-reads.Learnt, count-of-reads.Asked, count-of-reads.Learnt, put-fields-below t, put-fields.Post, put-byte-reads.Asked, put-byte-reads.Learnt) (put-value-at t) put-value.Post
-put-value-add-stand-2 t c = search needs
+put-value-add-next : put-value-need put-value-lts.Need-add-next
+put-value-add-next t c = search needs
 
-put-value-stand-requires-3 : (t : ℕ) → put-value-lts.Need-stand-requires-3 (stand-reads.Asked, stand-reads.Learnt, run-of-reads.Asked, run-of-reads.Learnt, put-scalar-reads.Asked, put-scalar-reads.Learnt, open-group-reads.Asked, open-group-reads.Learnt, count-of-reads.Asked, count-of-reads.Learnt, put-fields-below t, put-fields.Post, put-byte-reads.Asked, put-byte-reads.Learnt) (put-value-at t) put-value.Post
+put-value-run-of-requires : put-value-need put-value-lts.Need-run-of-requires
+put-value-run-of-requires t c κs = search needs
+
+put-value-sub-if4 : put-value-need put-value-lts.Need-sub-if4
+put-value-sub-if4 t c = search needs
+
+put-value-stand-requires-3 : put-value-need put-value-lts.Need-stand-requires-3
 put-value-stand-requires-3 t c κs = search needs
 
-put-value-same-length : (t : ℕ) → put-value-lts.Need-same-length (stand-reads.Asked, stand-reads.Learnt, run-of-reads.Asked, run-of-reads.Learnt, put-scalar-reads.Asked, put-scalar-reads.Learnt, open-group-reads.Asked, open-group-reads.Learnt, count-of-reads.Asked, count-of-reads.Learnt, put-fields-below t, put-fields.Post, put-byte-reads.Asked, put-byte-reads.Learnt) (put-value-at t) put-value.Post
-put-value-same-length t c = c .before .before .before .put-scalar .ensures .kept
+put-value-returns-3 : put-value-need put-value-lts.Need-returns-3
+put-value-returns-3 t c =
+    let r = c .before .before in
+    let i = r .before in
+    let s = i .before .before .before .before .before .before .before .before in
+    rw (c .stand3 .ensures) (laws.too-long (s .pre .1) (i .before .before .if2 .left) refl refl (i .if3 .taken) (rw (r .run-of .ensures) at (c .before .if4 .taken)))
 
-put-value-returns-3 : (t : ℕ) → put-value-lts.Need-returns-3 (stand-reads.Asked, stand-reads.Learnt, run-of-reads.Asked, run-of-reads.Learnt, put-scalar-reads.Asked, put-scalar-reads.Learnt, open-group-reads.Asked, open-group-reads.Learnt, count-of-reads.Asked, count-of-reads.Learnt, put-fields-below t, put-fields.Post, put-byte-reads.Asked, put-byte-reads.Learnt) (put-value-at t) put-value.Post
-put-value-returns-3 t c = rw (c .stand3 .ensures) (record { onward = record { on = omega arith; word-in = omega arith; pool-in = omega (arith, c .before .before .before .before .before .before .before .before .before .before .before .before .before .before .pre .1 .pool-in, c .before .before .before .before .before .if3 .left); at-in = c .before .before .before .put-scalar .ensures .inside; kept = c .before .before .before .put-scalar .ensures .kept }; says = laws.a-plain (c .before .before .before .before .before .before .before .before .before .before .before .before .before .before .args .words .now) (c .before .before .before .before .before .before .before .before .before .before .before .before .before .before .args .pool .now) (c .before .before .before .before .before .before .before .before .before .before .before .before .before .before .args .word) (c .before .before .before .before .before .before .before .before .before .before .before .before .before .before .args .from) (c .before .before .before .before .before .before .before .before .before .before .before .before .before .before .args .at) (c .before .before .before .before .before .before .before .before .before .before .before .before .before .before .args .out .now) _ _ _ _ refl refl (c .before .before .before .before .before .before .before .if2 .taken) (c .before .before .before .before .before .before .run-of .result) (c .before .before .before .before .before .before .run-of .ensures) (c .before .before .before .put-scalar .ensures) refl refl })
+put-value-add-behind : put-value-need put-value-lts.Need-add-behind
+put-value-add-behind t c = search needs
 
-put-value-open-group-requires : (t : ℕ) → put-value-lts.Need-open-group-requires (stand-reads.Asked, stand-reads.Learnt, run-of-reads.Asked, run-of-reads.Learnt, put-scalar-reads.Asked, put-scalar-reads.Learnt, open-group-reads.Asked, open-group-reads.Learnt, count-of-reads.Asked, count-of-reads.Learnt, put-fields-below t, put-fields.Post, put-byte-reads.Asked, put-byte-reads.Learnt) (put-value-at t) put-value.Post
-put-value-open-group-requires t c κs = c .before .before .before .before .before .before .before .before .pre .1 .at-in
+put-value-sub-put-scalar : put-value-need put-value-lts.Need-sub-put-scalar
+put-value-sub-put-scalar t c = search needs
 
-put-value-add-put-fields : (t : ℕ) → put-value-lts.Need-add-put-fields (stand-reads.Asked, stand-reads.Learnt, run-of-reads.Asked, run-of-reads.Learnt, put-scalar-reads.Asked, put-scalar-reads.Learnt, open-group-reads.Asked, open-group-reads.Learnt, count-of-reads.Asked, count-of-reads.Learnt, put-fields-below t, put-fields.Post, put-byte-reads.Asked, put-byte-reads.Learnt) (put-value-at t) put-value.Post
-put-value-add-put-fields t c = search needs
+put-value-part-put-scalar-start : put-value-need put-value-lts.Need-part-put-scalar-start
+put-value-part-put-scalar-start t c = search needs
 
-put-value-count-of-requires : (t : ℕ) → put-value-lts.Need-count-of-requires (stand-reads.Asked, stand-reads.Learnt, run-of-reads.Asked, run-of-reads.Learnt, put-scalar-reads.Asked, put-scalar-reads.Learnt, open-group-reads.Asked, open-group-reads.Learnt, count-of-reads.Asked, count-of-reads.Learnt, put-fields-below t, put-fields.Post, put-byte-reads.Asked, put-byte-reads.Learnt) (put-value-at t) put-value.Post
-put-value-count-of-requires t c κs = search needs
+put-value-part-put-scalar-end : put-value-need put-value-lts.Need-part-put-scalar-end
+put-value-part-put-scalar-end t c = search needs
 
-put-value-put-fields-requires : (t : ℕ) → put-value-lts.Need-put-fields-requires (stand-reads.Asked, stand-reads.Learnt, run-of-reads.Asked, run-of-reads.Learnt, put-scalar-reads.Asked, put-scalar-reads.Learnt, open-group-reads.Asked, open-group-reads.Learnt, count-of-reads.Asked, count-of-reads.Learnt, put-fields-below t, put-fields.Post, put-byte-reads.Asked, put-byte-reads.Learnt) (put-value-at t) put-value.Post
-put-value-put-fields-requires t c κs = (omega (arith, c .before .before .before .before .before .before .before .before .before .before .before .before .before .pre .0), record { word-in = omega arith; pool-in = c .before .before .before .before .before .before .before .before .before .before .before .before .before .pre .1 .pool-in; at-in = omega (arith, c .before .before .before .before .open-group .ensures .inside, c .before .before .before .before .open-group .ensures .kept) })
+put-value-put-scalar-requires : put-value-need put-value-lts.Need-put-scalar-requires
+put-value-put-scalar-requires t c κs = search needs
 
-put-value-put-byte-requires : (t : ℕ) → put-value-lts.Need-put-byte-requires (stand-reads.Asked, stand-reads.Learnt, run-of-reads.Asked, run-of-reads.Learnt, put-scalar-reads.Asked, put-scalar-reads.Learnt, open-group-reads.Asked, open-group-reads.Learnt, count-of-reads.Asked, count-of-reads.Learnt, put-fields-below t, put-fields.Post, put-byte-reads.Asked, put-byte-reads.Learnt) (put-value-at t) put-value.Post
-put-value-put-byte-requires t c κs = omega (arith, c .before .before .before .put-fields .ensures .onward .at-in, c .before .before .before .put-fields .ensures .onward .kept)
-
-put-value-stand-requires-4 : (t : ℕ) → put-value-lts.Need-stand-requires-4 (stand-reads.Asked, stand-reads.Learnt, run-of-reads.Asked, run-of-reads.Learnt, put-scalar-reads.Asked, put-scalar-reads.Learnt, open-group-reads.Asked, open-group-reads.Learnt, count-of-reads.Asked, count-of-reads.Learnt, put-fields-below t, put-fields.Post, put-byte-reads.Asked, put-byte-reads.Learnt) (put-value-at t) put-value.Post
+put-value-stand-requires-4 : put-value-need put-value-lts.Need-stand-requires-4
 put-value-stand-requires-4 t c κs = search needs
 
-put-value-same-length-2 : (t : ℕ) → put-value-lts.Need-same-length-2 (stand-reads.Asked, stand-reads.Learnt, run-of-reads.Asked, run-of-reads.Learnt, put-scalar-reads.Asked, put-scalar-reads.Learnt, open-group-reads.Asked, open-group-reads.Learnt, count-of-reads.Asked, count-of-reads.Learnt, put-fields-below t, put-fields.Post, put-byte-reads.Asked, put-byte-reads.Learnt) (put-value-at t) put-value.Post
-put-value-same-length-2 t c = c .before .before .before .put-byte .ensures .kept ∙ c .before .before .before .before .before .before .before .put-fields .ensures .onward .kept ∙ c .before .before .before .before .before .before .before .before .before .before .before .before .open-group .ensures .kept
+put-value-same-length : put-value-need put-value-lts.Need-same-length
+put-value-same-length t c = c .before .before .before .put-scalar .ensures .kept
 
-put-value-returns-4 : (t : ℕ) → put-value-lts.Need-returns-4 (stand-reads.Asked, stand-reads.Learnt, run-of-reads.Asked, run-of-reads.Learnt, put-scalar-reads.Asked, put-scalar-reads.Learnt, open-group-reads.Asked, open-group-reads.Learnt, count-of-reads.Asked, count-of-reads.Learnt, put-fields-below t, put-fields.Post, put-byte-reads.Asked, put-byte-reads.Learnt) (put-value-at t) put-value.Post
-put-value-returns-4 t c = rw (c .stand4 .ensures) (record { onward = record { on = omega (arith, c .before .before .before .before .before .before .before .put-fields .ensures .onward .on); word-in = c .before .before .before .before .before .before .before .put-fields .ensures .onward .word-in; pool-in = c .before .before .before .before .before .before .before .put-fields .ensures .onward .pool-in; at-in = omega (arith, c .before .before .before .put-byte .ensures .inside, c .before .before .before .before .before .before .before .put-fields .ensures .onward .kept, c .before .before .before .before .before .before .before .before .before .before .before .before .open-group .ensures .kept); kept = c .before .before .before .put-byte .ensures .kept ∙ c .before .before .before .before .before .before .before .put-fields .ensures .onward .kept ∙ c .before .before .before .before .before .before .before .before .before .before .before .before .open-group .ensures .kept }; says = laws.a-group (c .before .before .before .before .before .before .before .before .before .before .before .before .before .before .before .before .before .before .before .before .before .args .words .now) (c .before .before .before .before .before .before .before .before .before .before .before .before .before .before .before .before .before .before .before .before .before .args .pool .now) (c .before .before .before .before .before .before .before .before .before .before .before .before .before .before .before .before .before .before .before .before .before .args .word) (c .before .before .before .before .before .before .before .before .before .before .before .before .before .before .before .before .before .before .before .before .before .args .from) (c .before .before .before .before .before .before .before .before .before .before .before .before .before .before .before .before .before .before .before .before .before .args .at) (c .before .before .before .before .before .before .before .before .before .before .before .before .before .before .before .before .before .before .before .before .before .args .out .now) _ _ _ _ refl refl (omega (arith, c .before .before .before .before .before .before .before .before .before .before .before .before .before .before .if2 .left)) (c .before .before .before .before .before .before .before .before .before .before .before .before .open-group .result) (c .before .before .before .put-byte .result) _ _ (c .before .before .before .before .before .before .before .put-fields .result) (c .before .before .before .before .before .before .before .before .before .before .before .before .open-group .ensures) (c .before .before .before .before .before .before .before .put-fields .ensures .onward .kept) (rw (c .before .before .before .before .before .before .before .before .count-of .ensures) at (c .before .before .before .before .before .before .before .put-fields .ensures .says)) (c .before .before .before .put-byte .ensures) refl refl refl })
+put-value-returns-4 : put-value-need put-value-lts.Need-returns-4
+put-value-returns-4 t c =
+    let p = c .before .before .before in
+    let i = p .before .before .before in
+    let j = i .before .before in
+    let s = j .before .before .before .before .before .before .before .before in
+    rw (c .stand4 .ensures) (laws.wrote-plain (s .pre .1) (j .before .before .if2 .left) refl refl (j .if3 .taken) (i .before .run-of .ensures) (i .if4 .left) (p .put-scalar .ensures))
+
+put-value-open-group-requires : put-value-need put-value-lts.Need-open-group-requires
+put-value-open-group-requires t c κs = search needs
+
+put-value-count-of-requires : put-value-need put-value-lts.Need-count-of-requires
+put-value-count-of-requires t c κs = search needs
+
+put-value-add-put-fields : put-value-need put-value-lts.Need-add-put-fields
+put-value-add-put-fields t c = search needs
+
+put-value-put-fields-requires : put-value-need put-value-lts.Need-put-fields-requires
+put-value-put-fields-requires t c κs = search needs
+
+put-value-put-byte-requires : put-value-need put-value-lts.Need-put-byte-requires
+put-value-put-byte-requires t c κs = search needs
+
+put-value-stand-requires-5 : put-value-need put-value-lts.Need-stand-requires-5
+put-value-stand-requires-5 t c κs = search needs
+
+put-value-same-length-2 : put-value-need put-value-lts.Need-same-length-2
+put-value-same-length-2 t c = search needs
+
+put-value-returns-5 : put-value-need put-value-lts.Need-returns-5
+put-value-returns-5 t c =
+    let b = c .before .before .before in
+    let r = b .before .before .before .before in
+    let o = r .before .before .before .before .before in
+    let i = o .before .before in
+    let s = i .before .before .before .before .before .before .before .before in
+    rw (c .stand5 .ensures) (laws.wrote-group (s .pre .1) (i .before .before .if2 .left) refl refl (i .if3 .left) (o .open-group .ensures) (rw (r .before .before .count-of .ensures) at (r .put-fields .ensures)) (b .put-byte .ensures))
 
 pub +put-fields+put-value-spec : {M : Type 1} → statement M
-+put-fields+put-value-spec = close μ-put-fields μ-put-value (λ t. put-fields-lts.spec (put-plain-reads.Asked, put-plain-reads.Learnt, put-ends-reads.Asked, put-ends-reads.Learnt, stand-reads.Asked, stand-reads.Learnt, last-group-reads.Asked, last-group-reads.Learnt, open-group-reads.Asked, open-group-reads.Learnt, count-of-reads.Asked, count-of-reads.Learnt, put-value-below t, put-value.Post)
++put-fields+put-value-spec = close μ-put-fields μ-put-value (λ t. put-fields-lts.spec (put-fields-claims t)
     (put-fields-at t)
     put-fields.Post
     put-fields-Inv-loop
     put-fields-μ-loop
     (put-fields-loop-holds t)
-    (put-fields-put-plain-requires t)
-    (put-fields-put-ends-requires t)
-    (put-fields-stand-requires t)
-    (put-fields-same-length t)
-    (put-fields-returns t)
-    (put-fields-last-group-requires t)
-    (put-fields-mul-kind t)
-    (put-fields-shared-slice-read-kind t)
-    (put-fields-add-tag t)
-    (put-fields-mul-tag t)
-    (put-fields-shared-slice-read-tag t)
-    (put-fields-open-group-requires t)
-    (put-fields-count-of-requires t)
-    (put-fields-add-w t)
-    (put-fields-add-ends t)
-    (put-fields-loop-less t)
-    (put-fields-loop-again t)
     (put-fields-put-value-requires t)
     (put-fields-sub-left t)
-    (put-fields-loop-less-2 t)
-    (put-fields-loop-again-2 t))
-    λ t. put-value-lts.spec (
-      stand-reads.Asked,
-      stand-reads.Learnt,
-      run-of-reads.Asked,
-      run-of-reads.Learnt,
-      put-scalar-reads.Asked,
-      put-scalar-reads.Learnt,
-      open-group-reads.Asked,
-      open-group-reads.Learnt,
-      count-of-reads.Asked,
-      count-of-reads.Learnt,
-      put-fields-below t,
-      put-fields.Post,
-      put-byte-reads.Asked,
-      put-byte-reads.Learnt,
-    )
+    (put-fields-loop-less t)
+    (put-fields-loop-again t)
+    (put-fields-stand-requires t)
+    (put-fields-same-length t)
+    (put-fields-returns t))
+    λ t. put-value-lts.spec (put-value-claims t)
     (put-value-at t)
     put-value.Post
-    (put-value-sub-if1 t)
     (put-value-stand-requires t)
     (put-value-returns t)
     (put-value-mul-kind t)
     (put-value-shared-slice-read-kind t)
+    (put-value-sub-if2 t)
+    (put-value-stand-requires-2 t)
+    (put-value-returns-2 t)
     (put-value-add-x t)
     (put-value-mul-x t)
     (put-value-shared-slice-read-x t)
+    (put-value-add-next t)
     (put-value-run-of-requires t)
-    (put-value-sub-if3 t)
-    (put-value-stand-requires-2 t)
-    (put-value-returns-2 t)
-    (put-value-add-put-scalar t)
-    (put-value-put-scalar-requires t)
-    (put-value-add-stand t)
-    (put-value-add-stand-2 t)
+    (put-value-sub-if4 t)
     (put-value-stand-requires-3 t)
-    (put-value-same-length t)
     (put-value-returns-3 t)
+    (put-value-add-behind t)
+    (put-value-sub-put-scalar t)
+    (put-value-part-put-scalar-start t)
+    (put-value-part-put-scalar-end t)
+    (put-value-put-scalar-requires t)
+    (put-value-stand-requires-4 t)
+    (put-value-same-length t)
+    (put-value-returns-4 t)
     (put-value-open-group-requires t)
-    (put-value-add-put-fields t)
     (put-value-count-of-requires t)
+    (put-value-add-put-fields t)
     (put-value-put-fields-requires t)
     (put-value-put-byte-requires t)
-    (put-value-stand-requires-4 t)
+    (put-value-stand-requires-5 t)
     (put-value-same-length-2 t)
-    (put-value-returns-4 t)
+    (put-value-returns-5 t)

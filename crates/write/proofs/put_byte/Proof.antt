@@ -1,7 +1,6 @@
-use mathlib.Core.List.{[], _∷_}
-use mathlib.Core.Path.{_≡_, refl, sym, ap, _∙_}
+-- One byte: a store where the place is within the buffer, and nothing at its end.
 use native.Mathlib.Omega.{arith}
-use Rattle.write.proofs.Steps as laws
+use Rattle.write.proofs.Stores.{byte-stored, no-room}
 use borrow.Author.Needs.{needs}
 use Rattle.write.proofs.put_byte.Statement.{statement}
 use Rattle.write.proofs.put_byte.Tie as tie
@@ -16,10 +15,10 @@ same-length : tie.Need-same-length
 same-length c = search needs
 
 returns : tie.Need-returns
-returns c = let a = c .before .args in laws.byte-stored (a .out .now) (a .at) (a .b) (c .if1 .taken)
+returns c = byte-stored (c .if1 .taken)
 
 returns-2 : tie.Need-returns-2
-returns-2 c = let a = c .before .args in laws.no-room (a .out .now) (a .at) (a .b ∷ []) (c .before .pre) (omega (arith, c .if1 .left))
+returns-2 c = no-room (c .before .pre) (omega arith)
 
 pub put-byte-spec : {M : Type 1} → statement M
 put-byte-spec = tie.close (tie.spec slice-write-out add-result same-length returns returns-2)

@@ -1,7 +1,6 @@
-use Rattle.format.specs.Scalar.{intBytes}
-use mathlib.Core.Path.{_≡_, refl, sym, ap, _∙_}
+-- An integer: its length is compared with the room left, so that its bytes fit where they are written.
 use native.Mathlib.Omega.{arith}
-use Rattle.write.proofs.Steps as laws
+use Rattle.write.proofs.Stores.{no-room}
 use borrow.Author.Needs.{needs}
 use Rattle.write.proofs.put_int.Statement.{statement}
 use Rattle.write.proofs.put_int.Tie as tie
@@ -13,7 +12,7 @@ int-len-requires : tie.Need-int-len-requires
 int-len-requires c κs = search needs
 
 returns : tie.Need-returns
-returns c = let a = c .before .before .before .args in laws.no-room (a .out .now) (a .at) (intBytes (a .w)) (c .before .before .before .pre) (omega (arith, c .if1 .taken, c .before .int-len .ensures))
+returns c = no-room (c .before .before .before .pre) (omega (arith, c .before .int-len .ensures))
 
 write-i64-requires : tie.Need-write-i64-requires
 write-i64-requires c κs = search needs

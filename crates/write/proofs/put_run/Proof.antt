@@ -1,35 +1,58 @@
--- `put_run` meets its contract.
-use mathlib.Core.Path.{_≡_, sym, _∙_}
-use Prim.Native.Nat.{_-_}
+-- A mark, and a run behind it: each where there is room, so both where there is room for both.
+use mathlib.Core.Path.{sym, _∙_}
 use native.Mathlib.Omega.{arith}
-use lib.ListN.{length}
-use lib.Seq.{slice}
 use borrow.Author.Tests.{leb-true, leb-false}
-use Rattle.format.specs.Scalar.{escaped}
-use Rattle.write.proofs.Steps as laws
+use Rattle.write.proofs.Stores.{no-room, put-stored, stored-then}
 use borrow.Author.Needs.{needs}
 use Rattle.write.proofs.put_run.Statement.{statement}
 use Rattle.write.proofs.put_run.Tie as tie
 
+put-byte-requires : tie.Need-put-byte-requires
+put-byte-requires c κs = search needs
+
 sub-run-fits : tie.Need-sub-run-fits
-sub-run-fits c = search needs
+sub-run-fits c = let b = c .before .before .put-byte in omega (arith, b .ensures .inside, b .ensures .kept)
 
 run-fits-requires : tie.Need-run-fits-requires
 run-fits-requires c κs = search needs
 
-write-run-requires : tie.Need-write-run-requires
-write-run-requires c κs = let h = leb-true (length (escaped (slice (c .before .before .before .before .before .args .p) (c .before .before .before .before .before .args .e) (c .before .before .before .before .before .args .pool .now)))) (length (c .before .before .before .before .before .args .out .now) - c .before .before .before .before .before .args .at) (sym (c .before .before .run-fits .ensures) ∙ c .before .if1 .taken) in (c .before .before .before .before .before .pre .1, c .before .before .before .before .before .pre .2, omega arith)
+write-escaped-requires : tie.Need-write-escaped-requires
+write-escaped-requires c κs =
+    let f = c .before .before in
+    let b = f .before .before .before .put-byte in
+    let fit = sym (f .run-fits .ensures) ∙ c .before .if1 .taken in
+    omega (arith, leb-true, b .ensures .inside, b .ensures .kept)
 
 same-length : tie.Need-same-length
 same-length c = search needs
 
 returns : tie.Need-returns
-returns c = let h = leb-true (length (escaped (slice (c .before .before .before .before .before .before .before .before .args .p) (c .before .before .before .before .before .before .before .before .args .e) (c .before .before .before .before .before .before .before .before .args .pool .now)))) (length (c .before .before .before .before .before .before .before .before .args .out .now) - c .before .before .before .before .before .before .before .before .args .at) (sym (c .before .before .before .before .before .run-fits .ensures) ∙ c .before .before .before .before .if1 .taken) in laws.put-stored (c .before .before .before .before .before .before .before .before .args .out .now) (c .before .before .before .before .before .before .before .before .args .at) (escaped (slice (c .before .before .before .before .before .before .before .before .args .p) (c .before .before .before .before .before .before .before .before .args .e) (c .before .before .before .before .before .before .before .before .args .pool .now))) (c .before .before .before .before .before .before .before .before .pre .0) h (c .before .before .write-run .ensures .0) (c .before .before .write-run .ensures .1)
+returns c =
+    let w = c .before .before in
+    let f = w .before .before .before in
+    let b = f .before .before .before .put-byte .ensures in
+    let room = leb-true _ _ (sym (f .run-fits .ensures) ∙ w .before .before .if1 .taken) in
+    stored-then b (put-stored (omega (arith, b .inside, b .kept)) room (w .write-escaped .ensures .0) (w .write-escaped .ensures .1))
+
+same-length-2 : tie.Need-same-length-2
+same-length-2 c = search needs
 
 returns-2 : tie.Need-returns-2
-returns-2 c = let h = leb-false (length (escaped (slice (c .before .before .before .before .args .p) (c .before .before .before .before .args .e) (c .before .before .before .before .args .pool .now)))) (length (c .before .before .before .before .args .out .now) - c .before .before .before .before .args .at) (sym (c .before .run-fits .ensures) ∙ c .if1 .left) in laws.no-room (c .before .before .before .before .args .out .now) (c .before .before .before .before .args .at) (escaped (slice (c .before .before .before .before .args .p) (c .before .before .before .before .args .e) (c .before .before .before .before .args .pool .now))) (c .before .before .before .before .pre .0) (omega arith)
+returns-2 c =
+    let f = c .before in
+    let b = f .before .before .before .put-byte .ensures in
+    let fit = sym (f .run-fits .ensures) ∙ c .if1 .left in
+    stored-then b (no-room (omega (arith, b .inside, b .kept)) (omega (arith, leb-false)))
 
 pub put-run-spec : {M : Type 1} → statement M
 put-run-spec =
     tie.close
-    (tie.spec sub-run-fits run-fits-requires write-run-requires same-length returns returns-2)
+    (tie.spec
+    put-byte-requires
+    sub-run-fits
+    run-fits-requires
+    write-escaped-requires
+    same-length
+    returns
+    same-length-2
+    returns-2)

@@ -1,10 +1,5 @@
-use mathlib.Core.List.{[], _∷_}
-use lib.Seq.{slice}
-use Rattle.format.specs.Scalar.{escaped}
+-- A value that is no group, by its kind: what each kind is written as is what PlainLaws says of it.
 use Rattle.format.proofs.PlainLaws.{bytes-int, bytes-ref, bytes-str, bytes-raw}
-use mathlib.Core.Path.{_≡_, refl, sym, ap, _∙_}
-use native.Mathlib.Omega.{arith}
-use Rattle.write.proofs.Steps as laws
 use borrow.Author.Needs.{needs}
 use Rattle.write.proofs.put_scalar.Statement.{statement}
 use Rattle.write.proofs.put_scalar.Tie as tie
@@ -16,7 +11,11 @@ same-length : tie.Need-same-length
 same-length c = search needs
 
 returns : tie.Need-returns
-returns c = let a = c .before .before .before .before .before .before .before .args in let run = slice (a .p) (a .e) (a .pool .now) in rw (← bytes-int (a .kind) (a .x) run (c .before .before .before .before .if1 .taken)) (c .before .before .put-int .ensures)
+returns c =
+    let b = c .before .before in
+    let i = b .before .before in
+    let a = i .before .before .before .args in
+    rw (← bytes-int (a .kind) (a .x) (a .payload .now) (i .if1 .taken)) (b .put-int .ensures)
 
 put-ref-requires : tie.Need-put-ref-requires
 put-ref-requires c κs = search needs
@@ -25,10 +24,11 @@ same-length-2 : tie.Need-same-length-2
 same-length-2 c = search needs
 
 returns-2 : tie.Need-returns-2
-returns-2 c = let a = c .before .before .before .before .before .before .before .before .args in let run = slice (a .p) (a .e) (a .pool .now) in rw (← bytes-ref (a .kind) (a .x) run (c .before .before .before .before .before .if1 .left) (c .before .before .before .before .if2 .taken)) (c .before .before .put-ref .ensures)
-
-put-byte-requires : tie.Need-put-byte-requires
-put-byte-requires c κs = search needs
+returns-2 c =
+    let b = c .before .before in
+    let i = b .before .before in
+    let a = i .before .before .before .before .args in
+    rw (← bytes-ref (a .kind) (a .x) (a .payload .now) (i .before .if1 .left) (i .if2 .taken)) (b .put-ref .ensures)
 
 put-run-requires : tie.Need-put-run-requires
 put-run-requires c κs = search needs
@@ -37,10 +37,12 @@ same-length-3 : tie.Need-same-length-3
 same-length-3 c = search needs
 
 returns-3 : tie.Need-returns-3
-returns-3 c = let a = c .before .before .before .before .before .before .before .before .before .before .before .before .before .args in let run = slice (a .p) (a .e) (a .pool .now) in rw (← bytes-str (a .kind) (a .x) run (c .before .before .before .before .before .before .before .before .before .before .if1 .left) (c .before .before .before .before .before .before .before .before .before .if2 .left) (c .before .before .before .before .before .before .before .before .if3 .taken)) (laws.stored-then _ _ _ _ _ _ (0x21 ∷ []) (escaped run) (c .before .before .before .before .before .before .put-byte .ensures) (c .before .before .put-run .ensures))
-
-put-byte-requires-2 : tie.Need-put-byte-requires-2
-put-byte-requires-2 c κs = search needs
+returns-3 c =
+    let b = c .before .before in
+    let i = b .before .before in
+    let j = i .before .before in
+    let a = j .before .before .before .args in
+    rw (← bytes-str (a .kind) (a .x) (a .payload .now) (j .if1 .left) (i .before .if2 .left) (i .if3 .taken)) (b .put-run .ensures)
 
 put-run-requires-2 : tie.Need-put-run-requires-2
 put-run-requires-2 c κs = search needs
@@ -49,7 +51,12 @@ same-length-4 : tie.Need-same-length-4
 same-length-4 c = search needs
 
 returns-4 : tie.Need-returns-4
-returns-4 c = let a = c .before .before .before .before .before .before .before .before .before .before .before .before .before .args in let run = slice (a .p) (a .e) (a .pool .now) in rw (← bytes-raw (a .kind) (a .x) run (c .before .before .before .before .before .before .before .before .before .before .if1 .left) (c .before .before .before .before .before .before .before .before .before .if2 .left) (c .before .before .before .before .before .before .before .before .if3 .left)) (laws.stored-then _ _ _ _ _ _ (0x53 ∷ []) (escaped run) (c .before .before .before .before .before .before .put-byte2 .ensures) (c .before .before .put-run2 .ensures))
+returns-4 c =
+    let b = c .before .before in
+    let i = b .before .before in
+    let j = i .before .before in
+    let a = j .before .before .before .args in
+    rw (← bytes-raw (a .kind) (a .x) (a .payload .now) (j .if1 .left) (i .before .if2 .left) (i .if3 .left)) (b .put-run2 .ensures)
 
 pub put-scalar-spec : {M : Type 1} → statement M
 put-scalar-spec =
@@ -61,11 +68,9 @@ put-scalar-spec =
     put-ref-requires
     same-length-2
     returns-2
-    put-byte-requires
     put-run-requires
     same-length-3
     returns-3
-    put-byte-requires-2
     put-run-requires-2
     same-length-4
     returns-4)

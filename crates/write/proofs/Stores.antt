@@ -1,0 +1,42 @@
+-- Bytes stored in a buffer, one after another, where there is room.
+use mathlib.Core.Path.{_≡_, refl, sym, ap, _∙_}
+use mathlib.Core.List.{List, [], _∷_, _++_}
+use Prim.Native.Nat.{ℕ, _+_, _-_, _≤_, _<_}
+use native.Mathlib.Omega.{arith}
+use lib.ListN.{length, set, length-append, length-set}
+use Rattle.format.specs.Fields.{put}
+use Rattle.blocks.proofs.Put.{put-none, put-put, set-put, length-put}
+use Rattle.write.specs.Write.{Stored}
+
+pub two-puts : (l : List ℕ) (at : ℕ) (xs ys : List ℕ) {m l′ : List ℕ} {a : ℕ} → at + length xs + length ys ≤ length l → a ≡ at + length xs → m ≡ put l at xs → l′ ≡ put m a ys → l′ ≡ put l at (xs ++ ys)
+two-puts l at xs ys {a = a} h q e f =
+    f ∙ ap (λ (d : List ℕ). put d a ys) e ∙ ap (λ (i : ℕ). put (put l at xs) i ys) q ∙ put-put l at xs ys h
+
+pub stored-then : {l m l′ : List ℕ} {at a b : ℕ} {xs ys : List ℕ} → Stored l at xs a m → Stored m a ys b l′ → Stored l at (xs ++ ys) b l′
+stored-then {l} {at = at} {xs = xs} {ys = ys} s t =
+    record {
+      inside = omega (arith, s .kept, t .inside);
+      kept = t .kept ∙ s .kept;
+      right = λ h.
+          let n = length-append xs ys in
+          let f = s .right (omega arith) in
+          let g = t .right (omega (arith, f .0, s .kept)) in
+          (omega (arith, f .0, g .0), two-puts l at xs ys (omega arith) (f .0) (f .1) (g .1));
+    }
+
+module _ {l : List ℕ} {at : ℕ} where
+  -- one byte
+  pub byte-stored : {b : ℕ} → at < length l → Stored l at (b ∷ []) (at + 1) (set l at b)
+  byte-stored {b} h = record { inside = omega arith; kept = length-set l at b; right = λ f. (refl, set-put l at b h) }
+
+  -- bytes that fit in what is left
+  pub put-stored : {bs : List ℕ} {r : ℕ} {l′ : List ℕ} → at ≤ length l → length bs ≤ length l - at → r ≡ at + length bs → l′ ≡ put l at bs → Stored l at bs r l′
+  put-stored {bs} h g e f = record { inside = omega arith; kept = ap length f ∙ length-put l at bs (omega arith); right = λ k. (e, f) }
+
+  -- nothing is written where there is no room
+  pub no-room : {bs : List ℕ} → at ≤ length l → length l < at + length bs → Stored l at bs at l
+  no-room h g = record { inside = h; kept = refl; right = λ f. absurd (omega arith) }
+
+  -- no bytes
+  pub none-stored : at ≤ length l → Stored l at [] at l
+  none-stored h = record { inside = h; kept = refl; right = λ f. (omega arith, sym (put-none l at)) }
