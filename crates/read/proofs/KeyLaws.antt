@@ -1,63 +1,44 @@
--- Laws of whole keys: a top record's fields bare, any other type as a field.
-use mathlib.Core.Path.{_≡_, refl, sym, ap, subst, _∙_}
-use mathlib.Core.Bool.{Bool, false}
-use mathlib.Core.List.{List, []}
-use Prim.Native.Nat.{ℕ, _+_, _≤_, _<_}
+-- Laws of keys of record types: the fields, with the record's two words before them.
+use mathlib.Core.Path.{_≡_, sym, ap, subst}
+use mathlib.Core.Bool.{false}
+use mathlib.Core.List.{List}
+use Prim.Native.Nat.{ℕ, _^_, _≤_, _<_}
+use native.Mathlib.Nat.{zero-add}
 use native.Mathlib.Omega.{arith}
-use lib.ListN.{length, getD, drop}
-use Rattle.format.specs.Tree.{Ty, Tys, Alts, Val, Vals}
-use Rattle.format.specs.Sheet.{valPool, valsPool}
-use Rattle.format.specs.TypeSheet.{maxGroups, nesting, nestings}
-use Rattle.format.specs.Decode.{Decoded, decode, decodeBare, after}
-use Rattle.format.proofs.TypePlaces.{TypeIn, TypesIn, kind-is}
-use Rattle.read.specs.Walk.{TypeAt, FieldsAt, Within, Walks, ValueWalk, FieldWalk, KeyWalk, readKey}
+use lib.ListN.{length, getD}
+use Rattle.format.specs.Tree.{Ty, Val}
+use Rattle.format.specs.Sheet.{tyWords, tysWords, valWords, valPool}
+use Rattle.format.specs.TypeSheet.{maxGroups, nesting}
+use Rattle.format.specs.Decode.{decodeBare, after}
+use Rattle.format.proofs.TypePlaces.{TypeIn}
+use Rattle.format.proofs.TypeKinds.{record-here}
+use Rattle.read.specs.Walk.{TypeAt, FieldsAt, Walks, FieldWalk, BareWalk, Small, readBare, valSizes, valsSizes, plus}
 use Rattle.read.specs.declared.Walked.{Walked}
-use Rattle.read.specs.declared.Walked.the-variants.{Good, Bad}
-use Rattle.read.proofs.PlaceLaws.{record-at}
-use Rattle.read.proofs.WalkLaws.{Steps, after-law, f-none}
+use Rattle.read.proofs.AnswerLaws.{plus-law, is-small}
 
-pub bare-steps : (bs : List ℕ) → Steps decodeBare 0 bs
-unfolding decodeBare
-bare-steps bs t ts = refl
+module _ {ty : List ℕ} (g : TypeAt ty 0) (k : getD ty 0 0 ≡ 5) where
+  -- what the walk over a top record's fields asks
+  pub k-next : (1 < length ty) × FieldsAt ty 2 (getD ty 1 0)
+  k-next =
+      let z = record-here (g .t) (g .here) k in
+      (z .second, record { ts = z .ts; end = g .end; here = z .fields; count = z .count; deep = omega (arith, z .deep, g .deep) })
 
-pub b-end : (ty : List ℕ) (at n : ℕ) (bytes : List ℕ) (i p b : ℕ) (asked : Bool) → Within bytes i p b → n ≤ 0 → FieldWalk decodeBare ty at n bytes i p b asked (Good at i p b)
-unfolding decodeBare
-b-end ty at n bytes i p b asked ok z = f-none decodeBare ty at n bytes i 0 p b asked z i ok refl
+module _ {ty bytes : List ℕ} (k : getD ty 0 0 ≡ 5) {r : Walked} (f : FieldWalk ty 2 (getD ty 1 0) bytes 0 0 false r) where
+  fields : (t : Ty) (e : ℕ) (s : TypeIn ty 0 t e) → nesting t ≤ maxGroups
+      → Walks valsSizes bytes 0 false e (length (tysWords (record-here t s k .ts))) r (decodeBare (record-here t s k .ts) bytes)
+  fields t e s deep = let z = record-here t s k in f .walk (z .ts) e (λ y. z .fields) (λ y. z .fields) (z .count) (omega (arith, z .deep))
 
--- the places at the start
-pub start : (bytes : List ℕ) (i : ℕ) → i ≤ length bytes → Within bytes i 0 0
-start bytes i h = record { place = h; pool = omega arith; begun = omega arith }
+  pub k-small : TypeAt ty 0 → length ty < 2 ^ 61 → Small r
+  k-small g small =
+      let z = record-here (g .t) (g .here) k in
+      is-small (fields (g .t) (g .end) (g .here) (g .deep)) (omega (arith, z .fields .long, z .fields .within))
 
-module _ (ty bytes : List ℕ) where
-  module _ (k : getD ty 0 0 ≡ 5) where
-    -- what the walk over a top record's fields asks
-    pub k-next : TypeAt ty 0 → (1 < length ty) × FieldsAt ty 2 (getD ty 1 0)
-    unfolding nesting
-    k-next g =
-        let q = record-at ty 0 k (g .t) (g .end) (g .here) in
-        let d : nesting (Ty.Record (q .0)) ≤ maxGroups = subst (λ (x : Ty). nesting x ≤ maxGroups) (q .1) (g .deep) in
-        (q .2, record { ts = q .0; end = g .end; here = q .4; count = q .3; deep = omega arith })
-
-    pub k-record : (r : Walked) → FieldWalk decodeBare ty 2 (getD ty 1 0) bytes 0 0 0 false r → KeyWalk ty bytes r
-    unfolding valPool nesting
-    k-record r f = record {
-      walk = λ t e s deep.
-          let q = record-at ty 0 k t e s in
-          let d : nesting (Ty.Record (q .0)) ≤ maxGroups = subst (λ (x : Ty). nesting x ≤ maxGroups) (q .1) deep in
-          subst (λ (x : Ty). Walks valPool bytes false e 0 0 r (readKey x bytes)) (sym (q .1))
-          (after-law valsPool valPool Val.Record 0 [] bytes false e 0 0 0 0 r (decodeBare (q .0) bytes) (λ vs. refl) refl refl (f .walk (q .0) e (λ x. q .4) (λ x. q .4) (q .3) (omega arith)));
-    }
-
-  pub k-other : (r : Walked) → (getD ty 0 0 ≡ 5 → ⊥) → ValueWalk ty 0 bytes 0 0 0 0 false r → KeyWalk ty bytes r
-  k-other r k v = record {
+  pub k-record : BareWalk ty bytes (plus 2 0 0 r)
+  unfolding valPool valWords
+  k-record = record {
     walk = λ t e s deep.
-        subst (λ (D : Decoded Val). Walks valPool bytes false e 0 0 r D) (same t e s) (v .walk t e s deep);
+        let z = record-here t s k in
+        let meant : readBare t bytes ≡ after 0 Val.Record (decodeBare (z .ts) bytes) = ap (λ (u : Ty). readBare u bytes) (z .is) in
+        subst (Walks valSizes bytes 0 false e (length (tyWords t)) (plus 2 0 0 r)) (sym meant)
+        (plus-law Val.Record 2 0 0 (λ vs. (omega arith, sym (zero-add _))) (omega arith) (omega (arith, s .long, z .fields .long)) (omega (arith, s .long, z .fields .long)) (fields t e s deep));
   }
-    where
-      same : (t : Ty) (e : ℕ) → TypeIn ty 0 t e → decode t 0 bytes ≡ readKey t bytes
-      same Ty.Int e s = refl
-      same Ty.Str e s = refl
-      same Ty.Bytes e s = refl
-      same (Ty.Ref p) e s = refl
-      same (Ty.Record ts) e s = absurd (k (kind-is ty 0 e (Ty.Record ts) s .1))
-      same (Ty.Union us) e s = refl

@@ -1,7 +1,7 @@
--- Laws of the walkers, one for each way out of them.
+-- Laws of the walkers.
+pub mod AnswerLaws
 pub mod PlaceLaws
-pub mod GotLaws
-pub mod WalkLaws
-pub mod MarkLaws
 pub mod LeafLaws
+pub mod FieldLaws
+pub mod ValueLaws
 pub mod KeyLaws

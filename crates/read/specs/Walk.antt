@@ -1,22 +1,24 @@
 -- What the walkers' contracts say: a walk over the type and the key that stand at places does what the definition says of them.
 use mathlib.Core.Path.{_≡_}
 use mathlib.Core.Bool.{Bool, true, false}
-use Prim.Native.Nat.{ℕ, _+_, _-_, _≤_, _<_}
-use mathlib.Core.List.{List, []}
-use lib.ListN.{length, take, drop}
-use Rattle.format.specs.Tree.{Ty, Tys, Alts, Val, Vals}
-use Rattle.format.specs.Sheet.{fieldCount, valPool, valsPool}
+use Prim.Native.Nat.{ℕ, _+_, _*_, _^_, _≤_, _<_}
+use mathlib.Core.List.{List}
+use lib.Dec.{eqb}
+use lib.ListN.{length, drop}
+use Rattle.format.specs.Answer.{if, ok, refused}
+use Rattle.format.specs.Tree.{Ty, Tys, Val, Vals}
+use Rattle.format.specs.Sheet.{tyWords, tysWords, fieldCount, valWords, valsWords, valPool, valsPool}
 use Rattle.format.specs.TypeSheet.{maxGroups, nesting, nestings}
-use Rattle.format.specs.Encode.{maxDepth}
-use Rattle.format.specs.Read.{Read, marked, getRun}
-use Rattle.format.specs.Decode.{Decoded, decode, decodeGroup, decodeUnion, decodeBare, after, unionEnd}
+use Rattle.format.specs.Decode.{Decoded, decode, decodeGroup, decodeBare, both, after}
+use Rattle.format.specs.Skip.{endOf}
+use Rattle.format.specs.Cursor.{groupEnd}
+use Rattle.format.specs.Calls.{Sizes}
+use Rattle.format.specs.declared.Length.{Length}
 use Rattle.format.proofs.TypePlaces.{TypeIn, TypesIn}
+use Rattle.format.proofs.FitLaws.{typesIn}
+use Rattle.sheet.specs.Places.{SkipsAlts}
 use Rattle.read.specs.declared.Walked.{Walked}
 use Rattle.read.specs.declared.Walked.the-variants.{Good, Bad}
-use Rattle.scalar.specs.Runs.{unescape}
-use Rattle.read.specs.declared.leaves.Run.{Run}
-use Rattle.read.specs.declared.marks.Step.{Step}
-use Rattle.read.specs.declared.marks.Tag.{Tag}
 
 -- a type, or n field types, stand at a place of a sheet, up to an end
 pub record TypeAt (ty : List ℕ) (at : ℕ) : Type 0 where
@@ -32,82 +34,91 @@ pub record FieldsAt (ty : List ℕ) (at n : ℕ) : Type 0 where
   pub count : n ≡ fieldCount ts
   pub deep : nestings ts ≤ maxGroups
 
--- the bytes for the pool and the values begun are bounded by the place in the key, so no sum is too large
-pub record Within (bytes : List ℕ) (i p b : ℕ) : Type 0 where
-  pub place : i ≤ length bytes
-  pub pool : p ≤ i
-  pub begun : b ≤ i
+-- the words and the pool bytes of a value's sheet, and of those of fields
+abbrev pub valSizes : Val → Sizes
+valSizes v = record { words = length (valWords v); pool = length (valPool v) }
 
--- a walk that ended well: `ps` are the pool bytes of what was read, k the values begun in it and `rest` what is left of the key; the place in the type is the end where it is asked for
-pub record Well (bytes : List ℕ) (asked : Bool) (end p b : ℕ) (ps rest : List ℕ) (k : ℕ) (r : Walked) : Type 0 where
-  pub at : ℕ
-  pub next : ℕ
-  pub answer : r ≡ Good at next (p + length ps) (b + k)
+abbrev pub valsSizes : Vals → Sizes
+valsSizes vs = record { words = length (valsWords vs); pool = length (valsPool vs) }
+
+-- a walk from the place i on that ended well: what was read has the sizes s and k values begun, and `rest` is left of the key. A type of `most` words begins no more
+-- values than these, of two words each, so no sum is too large. The place in the type is the end where it is asked for.
+pub record Well (bytes : List ℕ) (i : ℕ) (asked : Bool) (end most : ℕ) (s : Sizes) (rest : List ℕ) (at next words pool k : ℕ) : Type 0 where
   pub behind : asked ≡ true → at ≡ end
   pub left : drop next bytes ≡ rest
-  pub bounds : Within bytes next (p + length ps) (b + k)
+  pub words-are : words ≡ s .words
+  pub pool-is : pool ≡ s .pool
+  pub place : next ≤ length bytes
+  pub short : i + pool ≤ next
+  pub few : k ≤ most
+  pub small : words ≤ 2 * most
 
--- the walk answers what the definition says, where g gives the pool bytes of what is read: p pool bytes and b values begun were before it
-abbrev pub Walks : {A : Type 0} → (A → List ℕ) → (bytes : List ℕ) → Bool → (end p b : ℕ) → Walked → Decoded A → Type 0
-Walks g bytes asked end p b r (Decoded.got a rest k) = Well bytes asked end p b (g a) rest k r
-Walks g bytes asked end p b r (Decoded.bad n d k) = (r ≡ Bad n d (b + k)) × (b + k ≤ length bytes + 1)
+-- the walk answers what the definition says, where g gives the sizes of what is read
+pub data Walks {A : Type 0} (g : A → Sizes) (bytes : List ℕ) (i : ℕ) (asked : Bool) (end most : ℕ) : Walked → Decoded A → Type 0 where
+  well : {at next words pool k : ℕ} {a : A} {rest : List ℕ} → Well bytes i asked end most (g a) rest at next words pool k
+      → Walks g bytes i asked end most (Good at next words pool k) (Decoded.got a rest k)
+  ill : {n d k : ℕ} → k ≤ most → Walks g bytes i asked end most (Bad n d k) (Decoded.bad n d k)
 
 -- the value walker: of any type that stands at the place
-pub record ValueWalk (ty : List ℕ) (at : ℕ) (bytes : List ℕ) (i depth p b : ℕ) (asked : Bool) (r : Walked) : Type 0 where
-  pub walk : (t : Ty) (e : ℕ) → TypeIn ty at t e → nesting t ≤ maxGroups → Walks valPool bytes asked e p b r (decode t depth (drop i bytes))
+pub record ValueWalk (ty : List ℕ) (at : ℕ) (bytes : List ℕ) (i depth : ℕ) (asked : Bool) (r : Walked) : Type 0 where
+  pub walk : (t : Ty) (e : ℕ) → TypeIn ty at t e → nesting t ≤ maxGroups → Walks valSizes bytes i asked e (length (tyWords t)) r (decode t depth (drop i bytes))
 
--- the walkers over fields, where F reads them: of any n field types that stand at the place; of none, they need to only where the place behind them is asked for
-pub record FieldWalk (F : Tys → List ℕ → Decoded Vals) (ty : List ℕ) (at n : ℕ) (bytes : List ℕ) (i p b : ℕ) (asked : Bool) (r : Walked) : Type 0 where
+-- fields at a depth: at 0 bare, else those of a group, with its end
+abbrev pub fieldsAt : ℕ → Tys → List ℕ → Decoded Vals
+fieldsAt depth ts bs = if (eqb depth 0) (decodeBare ts bs) (decodeGroup ts depth bs)
+
+-- the field-list walker: of any n field types that stand at the place; of none, they need to only where the place behind them is asked for
+pub record FieldWalk (ty : List ℕ) (at n : ℕ) (bytes : List ℕ) (i depth : ℕ) (asked : Bool) (r : Walked) : Type 0 where
   pub walk : (ts : Tys) (e : ℕ) → (asked ≡ true → TypesIn ty at ts e) → (0 < n → TypesIn ty at ts e) → n ≡ fieldCount ts → nestings ts ≤ maxGroups
-      → Walks valsPool bytes asked e p b r (F ts (drop i bytes))
+      → Walks valsSizes bytes i asked e (length (tysWords ts)) r (fieldsAt depth ts (drop i bytes))
 
--- the fields of a group at a depth, with the group's end
-abbrev pub inGroup : ℕ → Tys → List ℕ → Decoded Vals
-inGroup depth ts bs = decodeGroup ts depth bs
+-- a record's fields bare, with what is left over; none is begun for the record
+abbrev pub readBare : Ty → List ℕ → Decoded Val
+readBare t bs = after 0 Val.Record (decodeBare (typesIn t) bs)
 
--- a key's value with what is left over: a record's fields bare, any other type as a field
-abbrev pub readKey : Ty → List ℕ → Decoded Val
-readKey Ty.Int bs = decode Ty.Int 0 bs
-readKey Ty.Str bs = decode Ty.Str 0 bs
-readKey Ty.Bytes bs = decode Ty.Bytes 0 bs
-readKey (Ty.Ref p) bs = decode (Ty.Ref p) 0 bs
-readKey (Ty.Record ts) bs = after 0 Val.Record (decodeBare ts bs)
-readKey (Ty.Union alts) bs = decode (Ty.Union alts) 0 bs
+pub record BareWalk (ty bytes : List ℕ) (r : Walked) : Type 0 where
+  pub walk : (t : Ty) (e : ℕ) → TypeIn ty 0 t e → nesting t ≤ maxGroups → Walks valSizes bytes 0 false e (length (tyWords t)) r (readBare t bytes)
 
-pub record KeyWalk (ty bytes : List ℕ) (r : Walked) : Type 0 where
-  pub walk : (t : Ty) (e : ℕ) → TypeIn ty 0 t e → nesting t ≤ maxGroups → Walks valPool bytes false e 0 0 r (readKey t bytes)
+-- ---- the steps
 
--- a scalar's walk, of its type
-pub record LeafWalk (t : Ty) (bytes : List ℕ) (i p b end : ℕ) (r : Walked) : Type 0 where
-  pub walk : (depth : ℕ) (asked : Bool) → Walks valPool bytes asked end p b r (decode t depth (drop i bytes))
+-- a scalar's walk over what is left of a key from the place i on, of its type
+pub record LeafWalk (t : Ty) (rest : List ℕ) (i end : ℕ) (r : Walked) : Type 0 where
+  pub walk : (bytes : List ℕ) → drop i bytes ≡ rest → i ≤ length bytes → (depth : ℕ) (asked : Bool) (most : ℕ) → 0 < most
+      → Walks valSizes bytes i asked end most r (decode t depth rest)
 
--- the payload of the run from a place up to its terminator
-abbrev pub payloadAt : (bytes : List ℕ) (i end : ℕ) → List ℕ
-payloadAt bytes i end = unescape (take (end - i) (drop i bytes))
+-- the same of whatever scalar type stands at a place
+pub record ScalarWalk (ty : List ℕ) (at : ℕ) (rest : List ℕ) (i : ℕ) (r : Walked) : Type 0 where
+  pub walk : (t : Ty) (e : ℕ) → TypeIn ty at t e → (bytes : List ℕ) → drop i bytes ≡ rest → i ≤ length bytes → (depth : ℕ) (asked : Bool)
+      → Walks valSizes bytes i asked e (length (tyWords t)) r (decode t depth rest)
 
--- a run behind its mark: the place of its terminator, and its payload's length
-pub record FoundRun (bytes : List ℕ) (i mark end len : ℕ) : Type 0 where
-  pub reads : marked mark getRun (drop i bytes) ≡ Read.got (payloadAt bytes (i + 1) end) (drop (end + 1) bytes)
-  pub long : len ≡ length (payloadAt bytes (i + 1) end)
-  pub low : i + 1 + len ≤ end
-  pub within : end < length bytes
+-- an answer with so many words, pool bytes and values begun before it
+abbrev pub plus : (words pool begun : ℕ) → Walked → Walked
+plus w p b (Good at next words pool k) = Good at next (w + words) (p + pool) (b + k)
+plus w p b (Bad n d k) = Bad n d (b + k)
 
-abbrev pub RunAt : (bytes : List ℕ) (i mark : ℕ) → Run → Type 0
-RunAt bytes i mark (Run.Ends end len) = FoundRun bytes i mark end len
-RunAt bytes i mark (Run.Refused n d) = marked mark getRun (drop i bytes) ≡ Read.bad n d
+-- two words and a value begun more are not too many
+abbrev pub Small : Walked → Type 0
+Small (Good at next words pool k) = (2 + words < 2 ^ 64) × (1 + k < 2 ^ 64)
+Small (Bad n d k) = 1 + k < 2 ^ 64
 
--- a group's opening: mark and depth, for a union mark, tag and depth
-abbrev pub OpensRecord : (bytes : List ℕ) (i depth : ℕ) → Step → Type 0
-OpensRecord bytes i depth (Step.To next) =
-    (i < next) × (next ≤ length bytes) × (depth < maxDepth) × ((ts : Tys) → decode (Ty.Record ts) depth (drop i bytes) ≡ after 1 Val.Record (decodeGroup ts (depth + 1) (drop next bytes)))
-OpensRecord bytes i depth (Step.Refused n d) = (ts : Tys) → decode (Ty.Record ts) depth (drop i bytes) ≡ Decoded.bad n d 1
+-- the place that an answer gives is within the key
+abbrev pub InKey : List ℕ → Walked → Type 0
+InKey bytes (Good at next words pool k) = next ≤ length bytes
+InKey bytes (Bad n d k) = Unit
 
-abbrev pub OpensUnion : (bytes : List ℕ) (i depth : ℕ) → Tag → Type 0
-OpensUnion bytes i depth (Tag.Is tag next) =
-    (i < next) × (next ≤ length bytes) × (depth < maxDepth) × ((alts : Alts) → decode (Ty.Union alts) depth (drop i bytes) ≡ decodeUnion alts depth tag (drop next bytes))
-OpensUnion bytes i depth (Tag.Refused n d) = (alts : Alts) → decode (Ty.Union alts) depth (drop i bytes) ≡ Decoded.bad n d 1
+-- a union's answer from its payload's, with so many alternatives left: the payload's refusal, that of an end, or the places behind its end and its type
+pub data ClosesUnion (ty bytes : List ℕ) (left : ℕ) (asked : Bool) : Walked → Walked → Type 0 where
+  kept : {n d k : ℕ} → ClosesUnion ty bytes left asked (Bad n d k) (Bad n d k)
+  unended : {at next words pool k n d : ℕ} → refused n d ≡ endOf (drop next bytes) (groupEnd (drop next bytes)) → ClosesUnion ty bytes left asked (Good at next words pool k) (Bad n d k)
+  ended : {at next words pool k used end : ℕ} → ok used ≡ endOf (drop next bytes) (groupEnd (drop next bytes)) → (asked ≡ true → SkipsAlts ty at left end)
+      → ClosesUnion ty bytes left asked (Good at next words pool k) (Good end (next + used) words pool k)
 
--- a union's end
-abbrev pub ClosesUnion : (bytes : List ℕ) (i : ℕ) → Step → Type 0
-ClosesUnion bytes i (Step.To next) = (i < next) × (next ≤ length bytes) × ((v : Val) (k : ℕ) → unionEnd (Decoded.got v (drop i bytes) k) ≡ Decoded.got v (drop next bytes) k)
-ClosesUnion bytes i (Step.Refused n d) = (v : Val) (k : ℕ) → unionEnd (Decoded.got v (drop i bytes) k) ≡ Decoded.bad n d k
+-- may a field begin here? It may, or the number of what refuses one
+pub record Begins (depth : ℕ) (bs : List ℕ) (no : ℕ) : Type 0 where
+  pub yes : no ≡ 0 → (t : Ty) (ts : Tys) → fieldsAt depth (Tys.AddTy t ts) bs ≡ both (decode t depth bs) (fieldsAt depth ts) Vals.AddVal
+  pub not : (no ≡ 0 → ⊥) → (t : Ty) (ts : Tys) → fieldsAt depth (Tys.AddTy t ts) bs ≡ Decoded.bad no 0 0
+
+-- the place behind fields that are at their end, or what refuses an end here
+abbrev pub Finishes : (depth : ℕ) (bytes : List ℕ) (i : ℕ) → Length → Type 0
+Finishes depth bytes i (Length.Done next) = (i ≤ next) × (next ≤ length bytes) × (fieldsAt depth Tys.NoTy (drop i bytes) ≡ Decoded.got Vals.NoVal (drop next bytes) 0)
+Finishes depth bytes i (Length.Refused n d) = fieldsAt depth Tys.NoTy (drop i bytes) ≡ Decoded.bad n d 0

@@ -1,143 +1,80 @@
-// The scalars: each is read and judged.
+// The scalars, at the front of what is left of a key from the place i on: each is read and judged.
 use crate::Walked;
-use crate::marks::wide;
+use crate::answers::bad;
+use crate::answers::leaf;
 use scalar::GotInt;
-use scalar::runs::Measure;
+use scalar::refs::Judged;
+use scalar::runs::MarkedRun;
+ghost use Prim.Native.Nat.{_+_, _^_, _<_};
+ghost use lib.ListN.{length, getD};
 ghost use Rattle.format.specs.Tree.{Ty};
-ghost use Rattle.read.specs.Walk.{Within, LeafWalk, RunAt};
+ghost use Rattle.read.specs.Walk.{TypeAt, LeafWalk, ScalarWalk};
 
-// A reference's sequence is its low 32 bits.
-const SEQUENCES: u64 = 0x1_0000_0000;
-
-pub fn walk_int(bytes: &[u8], i: usize, p: usize, b: usize, at: usize) -> Walked
-    requires { ⌜ Within (now bytes) i p b ⌝ }
-    ensures { λ r. ⌜ LeafWalk Ty.Int (now (bytes .entry)) i p b at r ⌝ }
+fn walk_int(rest: &[u8], i: usize, at: usize) -> Walked
+    requires { ⌜ i + length (now rest) < 2 ^ 64 ⌝ }
+    ensures { λ r. ⌜ LeafWalk Ty.Int (now (rest .entry)) i at r ⌝ }
 {
-    match scalar::get_i64(&bytes[i..]) {
-        GotInt::Refused(no, detail) => Walked::Bad {
-            no,
-            detail,
-            begun: b + 1,
+    match scalar::get_i64(rest) {
+        GotInt::Refused(no, detail) => bad(no, detail, 1),
+        GotInt::Value(_, used) => leaf(at, i + used, 0),
+    }
+}
+
+fn walk_str(rest: &[u8], i: usize, at: usize) -> Walked
+    requires { ⌜ i + length (now rest) < 2 ^ 64 ⌝ }
+    ensures { λ r. ⌜ LeafWalk Ty.Str (now (rest .entry)) i at r ⌝ }
+{
+    match scalar::runs::marked_run(rest, format::MARK_STRING) {
+        MarkedRun::Refused(no, detail) => bad(no, detail, 1),
+        MarkedRun::Ends(end, len) => {
+            if !scalar::runs::payload_is_text(&rest[1..end], len) {
+                return bad(format::BAD_STRING, 0, 1);
+            }
+            leaf(at, i + end + 1, len)
+        }
+    }
+}
+
+fn walk_bytes(rest: &[u8], i: usize, at: usize) -> Walked
+    requires { ⌜ i + length (now rest) < 2 ^ 64 ⌝ }
+    ensures { λ r. ⌜ LeafWalk Ty.Bytes (now (rest .entry)) i at r ⌝ }
+{
+    match scalar::runs::marked_run(rest, format::MARK_BYTES) {
+        MarkedRun::Refused(no, detail) => bad(no, detail, 1),
+        MarkedRun::Ends(end, len) => leaf(at, i + end + 1, len),
+    }
+}
+
+// A reference: it is read, and then judged under its declared predicate.
+fn walk_ref(rest: &[u8], i: usize, predicate: u32, at: usize) -> Walked
+    requires { ⌜ i + length (now rest) < 2 ^ 64 ⌝ }
+    ensures { λ r. ⌜ LeafWalk (Ty.Ref predicate) (now (rest .entry)) i at r ⌝ }
+{
+    match scalar::get_fact_id(rest) {
+        GotInt::Refused(no, detail) => bad(no, detail, 1),
+        GotInt::Value(raw, used) => match scalar::refs::judge(predicate, raw) {
+            Judged::Refused(no, detail) => bad(no, detail, 1),
+            Judged::Fits => leaf(at, i + used, 0),
         },
-        GotInt::Value(_, used) => {
-            let next = i + used;
-            Walked::Good {
-                at,
-                next,
-                pool: p,
-                begun: b + 1,
-            }
-        }
     }
 }
 
-// Where a run behind its mark ends and how long its payload is, or the refusal.
-pub enum Run {
-    Ends(usize, usize),
-    Refused(u32, u64),
-}
-
-fn find_run(bytes: &[u8], i: usize, mark: u8) -> Run
-    ensures { λ r. ⌜ RunAt (now (bytes .entry)) i mark r ⌝ }
+// A scalar under the type at a place of the sheet.
+pub fn walk_scalar(ty: &[u32], at: usize, rest: &[u8], i: usize) -> Walked
+    requires { ⌜ TypeAt (now ty) at ⌝ ∗ ⌜ (getD (now ty) at 0 < 5) × (i + length (now rest) < 2 ^ 64) ⌝ }
+    ensures { λ r. ⌜ ScalarWalk (now (ty .entry)) at (now (rest .entry)) i r ⌝ }
 {
-    if bytes.len() <= i {
-        return Run::Refused(format::UNEXPECTED_EOF, 0);
+    let kind = ty[at];
+    let j = at + 1;
+    if kind == format::KIND_INT {
+        return walk_int(rest, i, j);
     }
-    let found = bytes[i];
-    if found != mark {
-        return Run::Refused(format::UNEXPECTED_MARK, wide(found));
+    if kind == format::KIND_STR {
+        return walk_str(rest, i, j);
     }
-    let j = i + 1;
-    match scalar::runs::measure_run(&bytes[j..]) {
-        Measure::Unended => Run::Refused(format::UNEXPECTED_EOF, 0),
-        Measure::Run(e, len) => {
-            let end = j + e;
-            Run::Ends(end, len)
-        }
+    if kind == format::KIND_BYTES {
+        return walk_bytes(rest, i, j);
     }
-}
-
-pub fn walk_str(bytes: &[u8], i: usize, p: usize, b: usize, at: usize) -> Walked
-    requires { ⌜ Within (now bytes) i p b ⌝ }
-    ensures { λ r. ⌜ LeafWalk Ty.Str (now (bytes .entry)) i p b at r ⌝ }
-{
-    match find_run(bytes, i, format::MARK_STRING) {
-        Run::Refused(no, detail) => Walked::Bad {
-            no,
-            detail,
-            begun: b + 1,
-        },
-        Run::Ends(end, len) => {
-            let j = i + 1;
-            if !scalar::runs::payload_is_text(&bytes[j..end], len) {
-                return Walked::Bad {
-                    no: format::BAD_STRING,
-                    detail: 0,
-                    begun: b + 1,
-                };
-            }
-            let next = end + 1;
-            let p1 = p + len;
-            Walked::Good {
-                at,
-                next,
-                pool: p1,
-                begun: b + 1,
-            }
-        }
-    }
-}
-
-pub fn walk_bytes(bytes: &[u8], i: usize, p: usize, b: usize, at: usize) -> Walked
-    requires { ⌜ Within (now bytes) i p b ⌝ }
-    ensures { λ r. ⌜ LeafWalk Ty.Bytes (now (bytes .entry)) i p b at r ⌝ }
-{
-    match find_run(bytes, i, format::MARK_BYTES) {
-        Run::Refused(no, detail) => Walked::Bad {
-            no,
-            detail,
-            begun: b + 1,
-        },
-        Run::Ends(end, len) => {
-            let next = end + 1;
-            let p1 = p + len;
-            Walked::Good {
-                at,
-                next,
-                pool: p1,
-                begun: b + 1,
-            }
-        }
-    }
-}
-
-// A reference: its sequence, then its predicate.
-pub fn walk_ref(bytes: &[u8], i: usize, predicate: u32, p: usize, b: usize, at: usize) -> Walked
-    requires { ⌜ Within (now bytes) i p b ⌝ }
-    ensures { λ r. ⌜ LeafWalk (Ty.Ref predicate) (now (bytes .entry)) i p b at r ⌝ }
-{
-    match scalar::get_fact_id(&bytes[i..]) {
-        GotInt::Refused(no, detail) => Walked::Bad {
-            no,
-            detail,
-            begun: b + 1,
-        },
-        GotInt::Value(raw, used) => {
-            let found = raw / SEQUENCES;
-            if found != predicate as u64 {
-                return Walked::Bad {
-                    no: format::FACT_REF_PREDICATE,
-                    detail: found,
-                    begun: b + 1,
-                };
-            }
-            let next = i + used;
-            Walked::Good {
-                at,
-                next,
-                pool: p,
-                begun: b + 1,
-            }
-        }
-    }
+    let predicate = ty[j];
+    walk_ref(rest, i, predicate, at + 2)
 }

@@ -1,119 +1,52 @@
 // The value walker and the field-list walker, which call each other: each call is at a later place of the type sheet.
 use crate::Walked;
-use crate::leaves::walk_bytes;
-use crate::leaves::walk_int;
-use crate::leaves::walk_ref;
-use crate::leaves::walk_str;
-use crate::marks::Step;
-use crate::marks::Tag;
-use crate::marks::close_union;
-use crate::marks::ends_here;
-use crate::marks::open_record;
-use crate::marks::open_union;
-ghost use mathlib.Core.Path.{_≡_};
-ghost use mathlib.Core.Bool.{true};
-ghost use Prim.Native.Nat.{_<_};
-ghost use Rattle.sheet.specs.Places.{SkipsAlts};
-ghost use Rattle.read.specs.Walk.{TypeAt, FieldsAt, Within, ValueWalk, FieldWalk, inGroup};
-
-// Is the place behind the first of some field types asked for? Where a field follows, or where the place behind the last one is.
-pub fn asks(left: u32, asked: bool) -> bool
-    ensures { λ r. ⌜ (1 < left → r ≡ true) × (asked ≡ true → r ≡ true) ⌝ }
-{
-    if 1 < left {
-        return true;
-    }
-    asked
-}
-
-// The place behind the alternatives left of a union, where it is asked for: they are not passed in vain.
-fn union_end(ty: &[u32], at: usize, left: u32, asked: bool) -> usize
-    ensures { λ r. ⌜ (asked ≡ true → SkipsAlts (now (ty .entry)) at left r) ⌝ }
-{
-    if asked {
-        return sheet::skip_alternatives(ty, at, left);
-    }
-    at
-}
+use crate::answers::bad;
+use crate::answers::more;
+use crate::groups::asks;
+use crate::groups::close_union;
+use crate::groups::field_refusal;
+use crate::groups::fields_end;
+use crate::leaves::walk_scalar;
+use format::Length;
+use scalar::GotInt;
+ghost use Prim.Native.Nat.{_≤_};
+ghost use lib.ListN.{length};
+ghost use Rattle.read.specs.Walk.{TypeAt, FieldsAt, ValueWalk, FieldWalk};
 
 // A value under the type at a place of the sheet.
-pub fn walk_value(
-    ty: &[u32],
-    at: usize,
-    bytes: &[u8],
-    i: usize,
-    depth: u32,
-    p: usize,
-    b: usize,
-    asked: bool,
-) -> Walked
-    requires { ⌜ TypeAt (now ty) at ⌝ ∗ ⌜ Within (now bytes) i p b ⌝ }
-    ensures { λ r. ⌜ ValueWalk (now (ty .entry)) at (now (bytes .entry)) i depth p b asked r ⌝ }
+pub fn walk_value(ty: &[u32], at: usize, bytes: &[u8], i: usize, depth: u32, asked: bool) -> Walked
+    requires { ⌜ TypeAt (now ty) at ⌝ ∗ ⌜ i ≤ length (now bytes) ⌝ }
+    ensures { λ r. ⌜ ValueWalk (now (ty .entry)) at (now (bytes .entry)) i depth asked r ⌝ }
 {
     let kind = ty[at];
-    let j = at + 1;
-    if kind == format::KIND_INT {
-        return walk_int(bytes, i, p, b, j);
+    if kind < format::KIND_RECORD {
+        return walk_scalar(ty, at, &bytes[i..], i);
     }
-    if kind == format::KIND_STR {
-        return walk_str(bytes, i, p, b, j);
-    }
-    if kind == format::KIND_BYTES {
-        return walk_bytes(bytes, i, p, b, j);
-    }
-    let n = ty[j];
-    if kind == format::KIND_FACT {
-        return walk_ref(bytes, i, n, p, b, at + 2);
-    }
-    let b1 = b + 1;
     if kind == format::KIND_RECORD {
-        return match open_record(bytes, i, depth) {
-            Step::Refused(no, detail) => Walked::Bad {
-                no,
-                detail,
-                begun: b1,
-            },
-            Step::To(next) => walk_fields(ty, at + 2, n, bytes, next, depth + 1, p, b1, asked),
+        let n = ty[at + 1];
+        return match scalar::groups::open_record(&bytes[i..], depth) {
+            Length::Refused(no, detail) => bad(no, detail, 1),
+            Length::Done(used) => {
+                let r = walk_fields(ty, at + 2, n, bytes, i + used, depth + 1, asked);
+                more(r, 2, 1)
+            }
         };
     }
-    match open_union(bytes, i, depth) {
-        Tag::Refused(no, detail) => Walked::Bad {
-            no,
-            detail,
-            begun: b1,
-        },
-        Tag::Is(tag, next) => {
+    match scalar::groups::open_union(&bytes[i..], depth) {
+        GotInt::Refused(no, detail) => bad(no, detail, 1),
+        GotInt::Value(tag, used) => {
             let choice = sheet::alternative(ty, at, tag);
-            let a = choice.place;
-            if a == 0 {
-                return Walked::Bad {
-                    no: format::UNKNOWN_DISCRIMINANT,
-                    detail: tag,
-                    begun: b1,
-                };
+            let place = choice.place;
+            if place == 0 {
+                return bad(format::UNKNOWN_DISCRIMINANT, tag, 1);
             }
-            match walk_value(ty, a, bytes, next, depth + 1, p, b1, asked) {
-                Walked::Bad { no, detail, begun } => Walked::Bad { no, detail, begun },
-                Walked::Good {
-                    at: a2,
-                    next: i2,
-                    pool: p2,
-                    begun,
-                } => match close_union(bytes, i2) {
-                    Step::Refused(no, detail) => Walked::Bad { no, detail, begun },
-                    Step::To(i3) => Walked::Good {
-                        at: union_end(ty, a2, choice.left, asked),
-                        next: i3,
-                        pool: p2,
-                        begun,
-                    },
-                },
-            }
+            let r = walk_value(ty, place, bytes, i + used, depth + 1, asked);
+            more(close_union(ty, bytes, r, choice.left, asked), 2, 1)
         }
     }
 }
 
-// The n fields of a group whose types stand at a place of the sheet, and the group's end.
+// The n fields whose types stand at a place of the sheet: bare at depth 0, else those of a group, with its end.
 pub fn walk_fields(
     ty: &[u32],
     at: usize,
@@ -121,70 +54,50 @@ pub fn walk_fields(
     bytes: &[u8],
     i: usize,
     depth: u32,
-    p: usize,
-    b: usize,
     asked: bool,
 ) -> Walked
-    requires { ⌜ FieldsAt (now ty) at n ⌝ ∗ ⌜ Within (now bytes) i p b ⌝ }
-    ensures { λ r. ⌜ FieldWalk (inGroup depth) (now (ty .entry)) at n (now (bytes .entry)) i p b asked r ⌝ }
+    requires { ⌜ FieldsAt (now ty) at n ⌝ ∗ ⌜ i ≤ length (now bytes) ⌝ }
+    ensures { λ r. ⌜ FieldWalk (now (ty .entry)) at n (now (bytes .entry)) i depth asked r ⌝ }
 {
     let mut a = at;
     let mut left = n;
     let mut j = i;
-    let mut p1 = p;
-    let mut b1 = b;
+    let mut w: usize = 0;
+    let mut p: usize = 0;
+    let mut b: usize = 0;
     while 0 < left {
-        if bytes.len() <= j {
-            return Walked::Bad {
-                no: format::UNEXPECTED_EOF,
-                detail: 0,
-                begun: b1,
-            };
+        let refusal = field_refusal(bytes, j, depth);
+        if refusal != 0 {
+            return bad(refusal, 0, b);
         }
-        if ends_here(bytes, j) {
-            return Walked::Bad {
-                no: format::BAD_RECORD,
-                detail: 0,
-                begun: b1,
-            };
-        }
-        match walk_value(ty, a, bytes, j, depth, p1, b1, asks(left, asked)) {
+        match walk_value(ty, a, bytes, j, depth, asks(left, asked)) {
             Walked::Bad { no, detail, begun } => {
-                return Walked::Bad { no, detail, begun };
+                return bad(no, detail, b + begun);
             }
             Walked::Good {
-                at: a2,
+                at: behind,
                 next,
-                pool: p2,
+                words,
+                pool,
                 begun,
             } => {
-                a = a2;
+                a = behind;
                 j = next;
-                p1 = p2;
-                b1 = begun;
+                w += words;
+                p += pool;
+                b += begun;
             }
         }
         left -= 1;
     }
-    if bytes.len() <= j {
-        return Walked::Bad {
-            no: format::UNEXPECTED_EOF,
-            detail: 0,
-            begun: b1,
-        };
-    }
-    if ends_here(bytes, j) {
-        let end = j + 1;
-        return Walked::Good {
+    match fields_end(bytes, j, depth) {
+        Length::Refused(no, detail) => bad(no, detail, b),
+        Length::Done(next) => Walked::Good {
             at: a,
-            next: end,
-            pool: p1,
-            begun: b1,
-        };
-    }
-    Walked::Bad {
-        no: format::BAD_RECORD,
-        detail: 0,
-        begun: b1,
+            next,
+            words: w,
+            pool: p,
+            begun: b,
+        },
     }
 }

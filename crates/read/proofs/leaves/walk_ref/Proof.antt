@@ -1,17 +1,9 @@
-use borrow.Author.Needs.{needs}
-use Rattle.read.proofs.LeafLaws as laws
+-- A reference under its predicate is one that is read without it, and then judged.
 use native.Mathlib.Omega.{arith}
+use Rattle.read.proofs.LeafLaws as laws
+use borrow.Author.Needs.{needs}
 use Rattle.read.proofs.leaves.walk_ref.Statement.{statement}
 use Rattle.read.proofs.leaves.walk_ref.Tie as tie
-
-sub-get-fact-id : tie.Need-sub-get-fact-id
-sub-get-fact-id c = search needs
-
-part-get-fact-id-start : tie.Need-part-get-fact-id-start
-part-get-fact-id-start c = search needs
-
-part-get-fact-id-end : tie.Need-part-get-fact-id-end
-part-get-fact-id-end c = search needs
 
 get-fact-id-requires : tie.Need-get-fact-id-requires
 get-fact-id-requires c κs = search needs
@@ -19,44 +11,55 @@ get-fact-id-requires c κs = search needs
 enum-known-no : tie.Need-enum-known-no
 enum-known-no c = search needs
 
-add-t19 : tie.Need-add-t19
-add-t19 c = search needs
+bad-requires : tie.Need-bad-requires
+bad-requires c κs = search needs
 
 enum-known-raw : tie.Need-enum-known-raw
 enum-known-raw c = search needs
 
-add-t22 : tie.Need-add-t22
-add-t22 c = search needs
+judge-requires : tie.Need-judge-requires
+judge-requires c κs = search needs
+
+enum-known-no-2 : tie.Need-enum-known-no-2
+enum-known-no-2 c = search needs
+
+bad-requires-2 : tie.Need-bad-requires-2
+bad-requires-2 c κs = search needs
+
+enum-told : tie.Need-enum-told
+enum-told c = search needs
+
+add-leaf : tie.Need-add-leaf
+add-leaf c =
+    let at-raw = c .before .before .before .before in
+    omega (arith, laws.ref-within _ (at-raw .before .before .get-fact-id .ensures) (at-raw .raw .given .1))
+
+leaf-requires : tie.Need-leaf-requires
+leaf-requires c κs = search needs
 
 returns : tie.Need-returns
-returns c = laws.ref-other (c .before .before .before .before .before .before .before .args .predicate) (c .before .before .before .before .before .before .before .args .bytes .now) (c .before .before .before .before .before .before .before .args .i) (c .before .before .before .before .before .before .before .args .p) (c .before .before .before .before .before .before .before .args .b) (c .before .before .before .before .before .before .before .args .at) (c .before .before .before .before .before .before .before .pre) (c .before .before .before .before .get-fact-id .result) (c .before .before .before .before .get-fact-id .ensures) _ _ (c .before .before .raw .given .1) (c .if1 .taken)
-
-add-next : tie.Need-add-next
-add-next c = omega (arith, laws.ref-within (c .before .before .before .before .before .before .before .args .predicate) (c .before .before .before .before .before .before .before .args .bytes .now) (c .before .before .before .before .before .before .before .args .i) (c .before .before .before .before .before .before .before .args .p) (c .before .before .before .before .before .before .before .args .b) (c .before .before .before .before .before .before .before .args .at) (c .before .before .before .before .before .before .before .pre) (c .before .before .before .before .get-fact-id .result) (c .before .before .before .before .get-fact-id .ensures) _ _ (c .before .before .raw .given .1))
-
-add-t23 : tie.Need-add-t23
-add-t23 c = search needs
+returns c = search laws.ref-bad
 
 returns-2 : tie.Need-returns-2
-returns-2 c = laws.ref-bad (c .before .before .before .before .before .before .args .predicate) (c .before .before .before .before .before .before .args .bytes .now) (c .before .before .before .before .before .before .args .i) (c .before .before .before .before .before .before .args .p) (c .before .before .before .before .before .before .args .b) (c .before .before .before .before .before .before .args .at) (c .before .before .before .before .before .before .pre) (c .before .before .before .get-fact-id .result) (c .before .before .before .get-fact-id .ensures) _ _ (c .before .no .given .1)
+returns-2 c = search laws.ref-other
 
 returns-3 : tie.Need-returns-3
-returns-3 c = laws.ref-good (c .before .before .before .before .before .before .before .args .predicate) (c .before .before .before .before .before .before .before .args .bytes .now) (c .before .before .before .before .before .before .before .args .i) (c .before .before .before .before .before .before .before .args .p) (c .before .before .before .before .before .before .before .args .b) (c .before .before .before .before .before .before .before .args .at) (c .before .before .before .before .before .before .before .pre) (c .before .before .before .before .get-fact-id .result) (c .before .before .before .before .get-fact-id .ensures) _ _ (c .before .before .raw .given .1) (c .if1 .left)
+returns-3 c = search laws.ref-good
 
 pub walk-ref-spec : {M : Type 1} → statement M
 walk-ref-spec =
     tie.close
     (tie.spec
-    sub-get-fact-id
-    part-get-fact-id-start
-    part-get-fact-id-end
     get-fact-id-requires
     enum-known-no
-    add-t19
+    bad-requires
     enum-known-raw
-    add-t22
+    judge-requires
+    enum-known-no-2
+    bad-requires-2
+    enum-told
+    add-leaf
+    leaf-requires
     returns
-    add-next
-    add-t23
     returns-2
     returns-3)

@@ -1,75 +1,95 @@
-use borrow.Author.Needs.{needs}
+-- What `marked_run` found is the payload that the definition judges; the part judged is that run.
 use borrow.Author.Tests.{not-true, not-false}
-use Rattle.read.proofs.LeafLaws as laws
 use native.Mathlib.Omega.{arith}
+use Rattle.read.proofs.LeafLaws as laws
+use borrow.Author.Needs.{needs}
 use Rattle.read.proofs.leaves.walk_str.Statement.{statement}
 use Rattle.read.proofs.leaves.walk_str.Tie as tie
 
-find-run-requires : tie.Need-find-run-requires
-find-run-requires c κs = search needs
+marked-run-requires : tie.Need-marked-run-requires
+marked-run-requires c κs = search needs
 
 enum-known-no : tie.Need-enum-known-no
 enum-known-no c = search needs
 
-add-t15 : tie.Need-add-t15
-add-t15 c = search needs
+bad-requires : tie.Need-bad-requires
+bad-requires c κs = search needs
 
 enum-known-end : tie.Need-enum-known-end
 enum-known-end c = search needs
 
-add-j : tie.Need-add-j
-add-j c = search needs
-
 sub-payload-is-text : tie.Need-sub-payload-is-text
-sub-payload-is-text c = let f = laws.str-run (c .before .before .before .before .before .args .bytes .now) (c .before .before .before .before .before .args .i) (c .before .before .before .before .before .args .p) (c .before .before .before .before .before .args .b) (c .before .before .before .before .before .args .at) (c .before .before .before .before .before .pre) (c .before .before .before .find-run .result) (c .before .before .before .find-run .ensures) _ _ (c .before .end .given .1) in omega (arith, f .low)
+sub-payload-is-text c =
+    let at-end = c .before in
+    let at-marked-run = at-end .before .before in
+    let f = laws.run-within 0x21 (at-marked-run .before .before .args .rest .now) (at-marked-run .marked-run .ensures) (at-end .end .given .1) in
+    omega (arith, f .escapes)
 
 part-payload-is-text-start : tie.Need-part-payload-is-text-start
-part-payload-is-text-start c = let f = laws.str-run (c .before .before .before .before .before .args .bytes .now) (c .before .before .before .before .before .args .i) (c .before .before .before .before .before .args .p) (c .before .before .before .before .before .args .b) (c .before .before .before .before .before .args .at) (c .before .before .before .before .before .pre) (c .before .before .before .find-run .result) (c .before .before .before .find-run .ensures) _ _ (c .before .end .given .1) in omega (arith, f .low)
+part-payload-is-text-start c =
+    let at-end = c .before in
+    let at-marked-run = at-end .before .before in
+    let f = laws.run-within 0x21 (at-marked-run .before .before .args .rest .now) (at-marked-run .marked-run .ensures) (at-end .end .given .1) in
+    omega (arith, f .escapes)
 
 part-payload-is-text-end : tie.Need-part-payload-is-text-end
-part-payload-is-text-end c = let f = laws.str-run (c .before .before .before .before .before .args .bytes .now) (c .before .before .before .before .before .args .i) (c .before .before .before .before .before .args .p) (c .before .before .before .before .before .args .b) (c .before .before .before .before .before .args .at) (c .before .before .before .before .before .pre) (c .before .before .before .find-run .result) (c .before .before .before .find-run .ensures) _ _ (c .before .end .given .1) in omega (arith, f .within)
+part-payload-is-text-end c =
+    let at-end = c .before in
+    let at-marked-run = at-end .before .before in
+    let f = laws.run-within 0x21 (at-marked-run .before .before .args .rest .now) (at-marked-run .marked-run .ensures) (at-end .end .given .1) in
+    omega (arith, f .within)
 
 payload-is-text-requires : tie.Need-payload-is-text-requires
-payload-is-text-requires c κs = let f = laws.str-run (c .before .before .before .before .before .before .args .bytes .now) (c .before .before .before .before .before .before .args .i) (c .before .before .before .before .before .before .args .p) (c .before .before .before .before .before .before .args .b) (c .before .before .before .before .before .before .args .at) (c .before .before .before .before .before .before .pre) (c .before .before .before .before .find-run .result) (c .before .before .before .before .find-run .ensures) _ _ (c .before .before .end .given .1) in f .long
+payload-is-text-requires c κs =
+    let at-end = c .before .before in
+    let at-marked-run = at-end .before .before in
+    let f = laws.run-within 0x21 (at-marked-run .before .before .args .rest .now) (at-marked-run .marked-run .ensures) (at-end .end .given .1) in f .long
 
-add-t22 : tie.Need-add-t22
-add-t22 c = search needs
+bad-requires-2 : tie.Need-bad-requires-2
+bad-requires-2 c κs = search needs
 
 returns : tie.Need-returns
-returns c = laws.str-not (c .before .before .before .before .before .before .before .before .args .bytes .now) (c .before .before .before .before .before .before .before .before .args .i) (c .before .before .before .before .before .before .before .before .args .p) (c .before .before .before .before .before .before .before .before .args .b) (c .before .before .before .before .before .before .before .before .args .at) (c .before .before .before .before .before .before .before .before .pre) (c .before .before .before .before .before .before .find-run .result) (c .before .before .before .before .before .before .find-run .ensures) _ _ (c .before .before .before .before .end .given .1) (c .before .payload-is-text .result) (c .before .payload-is-text .ensures) (not-true _ (c .if1 .taken))
+returns c = search (laws.str-not, not-true)
 
-add-next : tie.Need-add-next
-add-next c = let f = laws.str-run (c .before .before .before .before .before .before .before .before .args .bytes .now) (c .before .before .before .before .before .before .before .before .args .i) (c .before .before .before .before .before .before .before .before .args .p) (c .before .before .before .before .before .before .before .before .args .b) (c .before .before .before .before .before .before .before .before .args .at) (c .before .before .before .before .before .before .before .before .pre) (c .before .before .before .before .before .before .find-run .result) (c .before .before .before .before .before .before .find-run .ensures) _ _ (c .before .before .before .before .end .given .1) in omega (arith, f .within)
+add-leaf : tie.Need-add-leaf
+add-leaf c =
+    let at-end = c .before .before .before .before in
+    let at-marked-run = at-end .before .before in
+    let f = laws.run-within 0x21 (at-marked-run .before .before .args .rest .now) (at-marked-run .marked-run .ensures) (at-end .end .given .1) in
+    omega (arith, f .within)
 
-add-p1 : tie.Need-add-p1
-add-p1 c = let f = laws.str-run (c .before .before .before .before .before .before .before .before .args .bytes .now) (c .before .before .before .before .before .before .before .before .args .i) (c .before .before .before .before .before .before .before .before .args .p) (c .before .before .before .before .before .before .before .before .args .b) (c .before .before .before .before .before .before .before .before .args .at) (c .before .before .before .before .before .before .before .before .pre) (c .before .before .before .before .before .before .find-run .result) (c .before .before .before .before .before .before .find-run .ensures) _ _ (c .before .before .before .before .end .given .1) in omega (arith, f .low, f .within, c .before .before .before .before .before .before .before .before .pre .pool)
+add-leaf-2 : tie.Need-add-leaf-2
+add-leaf-2 c =
+    let at-end = c .before .before .before .before in
+    let at-marked-run = at-end .before .before in
+    let f = laws.run-within 0x21 (at-marked-run .before .before .args .rest .now) (at-marked-run .marked-run .ensures) (at-end .end .given .1) in
+    omega (arith, f .within)
 
-add-t18 : tie.Need-add-t18
-add-t18 c = search needs
+leaf-requires : tie.Need-leaf-requires
+leaf-requires c κs = search needs
 
 returns-2 : tie.Need-returns-2
-returns-2 c = laws.str-bad (c .before .before .before .before .before .args .bytes .now) (c .before .before .before .before .before .args .i) (c .before .before .before .before .before .args .p) (c .before .before .before .before .before .args .b) (c .before .before .before .before .before .args .at) (c .before .before .before .before .before .pre) (c .before .before .before .find-run .result) (c .before .before .before .find-run .ensures) _ _ (c .before .no .given .1)
+returns-2 c = search laws.str-bad
 
 returns-3 : tie.Need-returns-3
-returns-3 c = laws.str-good (c .before .before .before .before .before .before .before .before .args .bytes .now) (c .before .before .before .before .before .before .before .before .args .i) (c .before .before .before .before .before .before .before .before .args .p) (c .before .before .before .before .before .before .before .before .args .b) (c .before .before .before .before .before .before .before .before .args .at) (c .before .before .before .before .before .before .before .before .pre) (c .before .before .before .before .before .before .find-run .result) (c .before .before .before .before .before .before .find-run .ensures) _ _ (c .before .before .before .before .end .given .1) (c .before .payload-is-text .result) (c .before .payload-is-text .ensures) (not-false _ (c .if1 .left))
+returns-3 c = search (laws.str-good, not-false)
 
 pub walk-str-spec : {M : Type 1} → statement M
 walk-str-spec =
     tie.close
     (tie.spec
-    find-run-requires
+    marked-run-requires
     enum-known-no
-    add-t15
+    bad-requires
     enum-known-end
-    add-j
     sub-payload-is-text
     part-payload-is-text-start
     part-payload-is-text-end
     payload-is-text-requires
-    add-t22
+    bad-requires-2
     returns
-    add-next
-    add-p1
-    add-t18
+    add-leaf
+    add-leaf-2
+    leaf-requires
     returns-2
     returns-3)

@@ -1,27 +1,28 @@
-use Prim.Native.Nat.{ℕ, _<_, _+_, _*_, _-_}
-use borrow.Fn.Kinds.{In}
-use borrow.Fn.PlainCycle.{Measures, is, falls, and}
-use borrow.Author.Needs.{needs}
+-- The walkers call each other at later places of the type sheet: the words left fall, twice them and one more for the fields, which call at the same place.
+-- The loop keeps that what the walk over the fields left says, with what is summed up so far, it says of them all.
+use Rattle.read.proofs.ValueLaws as laws
+use Prim.Native.Nat.{ℕ, _+_, _-_, _*_, _<_}
 use native.Mathlib.Omega.{arith}
 use lib.ListN.{length}
-use Rattle.read.specs.Walk.{inGroup}
-use Rattle.read.proofs.WalkLaws as laws
+use borrow.Author.Needs.{needs}
+use Rattle.read.proofs.FieldLaws as fields
+use borrow.Fn.Kinds.{In}
+use borrow.Fn.PlainCycle.{Measures, is, falls, and}
 use Rattle.read.proofs.values.walk_fields.Reads as walk-fields
 use Rattle.read.proofs.values.walk_fields.Kinds as walk-fields-kinds
 use Rattle.read.proofs.values.+walk_fields+walk_value.Lts-walk_fields as walk-fields-lts
 use Rattle.read.proofs.values.walk_value.Reads as walk-value
 use Rattle.read.proofs.values.walk_value.Kinds as walk-value-kinds
 use Rattle.read.proofs.values.+walk_fields+walk_value.Lts-walk_value as walk-value-lts
-use Rattle.read.proofs.leaves.walk_bytes.Reads as walk-bytes-reads
-use Rattle.read.proofs.leaves.walk_int.Reads as walk-int-reads
-use Rattle.read.proofs.leaves.walk_ref.Reads as walk-ref-reads
-use Rattle.read.proofs.leaves.walk_str.Reads as walk-str-reads
-use Rattle.read.proofs.marks.close_union.Reads as close-union-reads
-use Rattle.read.proofs.marks.ends_here.Reads as ends-here-reads
-use Rattle.read.proofs.marks.open_record.Reads as open-record-reads
-use Rattle.read.proofs.marks.open_union.Reads as open-union-reads
-use Rattle.read.proofs.values.asks.Reads as asks-reads
-use Rattle.read.proofs.values.union_end.Reads as union-end-reads
+use Rattle.read.proofs.answers.bad.Reads as bad-reads
+use Rattle.read.proofs.answers.more.Reads as more-reads
+use Rattle.read.proofs.groups.asks.Reads as asks-reads
+use Rattle.read.proofs.groups.close_union.Reads as close-union-reads
+use Rattle.read.proofs.groups.field_refusal.Reads as field-refusal-reads
+use Rattle.read.proofs.groups.fields_end.Reads as fields-end-reads
+use Rattle.read.proofs.leaves.walk_scalar.Reads as walk-scalar-reads
+use Rattle.scalar.proofs.groups.open_record.Reads as open-record-reads
+use Rattle.scalar.proofs.groups.open_union.Reads as open-union-reads
 use Rattle.sheet.proofs.alternative.Reads as alternative-reads
 use Rattle.read.proofs.values.+walk_fields+walk_value.{statement}
 use Rattle.read.proofs.values.+walk_fields+walk_value.Tie.{close}
@@ -48,269 +49,438 @@ abbrev walk-value-below : ℕ → In 2 walk-value-kinds.ps
 walk-value-below t =
     and 2 walk-value-kinds.ps (falls 2 walk-value-kinds.ps _<_ μ-walk-value t) walk-value.Pre
 
+abbrev walk-fields-claims : ℕ → walk-fields-lts.Claims
+walk-fields-claims t = (
+  field-refusal-reads.Asked,
+  field-refusal-reads.Learnt,
+  bad-reads.Asked,
+  bad-reads.Learnt,
+  asks-reads.Asked,
+  asks-reads.Learnt,
+  walk-value-below t,
+  walk-value.Post,
+  fields-end-reads.Asked,
+  fields-end-reads.Learnt,
+)
+
+abbrev walk-value-claims : ℕ → walk-value-lts.Claims
+walk-value-claims t = (
+  walk-scalar-reads.Asked,
+  walk-scalar-reads.Learnt,
+  open-record-reads.Asked,
+  open-record-reads.Learnt,
+  bad-reads.Asked,
+  bad-reads.Learnt,
+  walk-fields-below t,
+  walk-fields.Post,
+  more-reads.Asked,
+  more-reads.Learnt,
+  open-union-reads.Asked,
+  open-union-reads.Learnt,
+  alternative-reads.Asked,
+  alternative-reads.Learnt,
+  walk-value-below t,
+  walk-value.Post,
+  close-union-reads.Asked,
+  close-union-reads.Learnt,
+)
+
 abbrev walk-fields-Inv-loop : walk-fields-lts.InvT-loop
-walk-fields-Inv-loop ty at n bytes i depth p b asked a₀ left₀ j₀ p1₀ b1₀ a left j p1 b1 = laws.Turned (inGroup depth) ty at n bytes i p b asked a left j p1 b1
+walk-fields-Inv-loop ty at n bytes i depth asked a₀ left₀ j₀ w₀ p₀ b₀ a left j w p b = fields.Turned ty at n bytes i depth asked a left j w p b
 
 abbrev walk-fields-μ-loop : walk-fields-lts.MeasureT-loop
-walk-fields-μ-loop ty at n bytes i depth p b asked a₀ left₀ j₀ p1₀ b1₀ a left j p1 b1 = left
+walk-fields-μ-loop ty at n bytes i depth asked a₀ left₀ j₀ w₀ p₀ b₀ a left j w p b = left
 
-walk-fields-loop-holds : (t : ℕ) → walk-fields-lts.Need-loop-holds (ends-here-reads.Asked, ends-here-reads.Learnt, asks-reads.Asked, asks-reads.Learnt, walk-value-below t, walk-value.Post) (walk-fields-at t) walk-fields.Post walk-fields-Inv-loop walk-fields-μ-loop
-walk-fields-loop-holds t c = let s = c .before .before in record { fields = λ h. s .pre .1 .0; bounds = s .pre .1 .1; on = λ h. omega arith; so-far = λ r h. h }
+-- what is at hand once a field's walk has answered, and behind a group's opening
+turn : (t : ℕ) (c : walk-fields-lts.After-walk-value (walk-fields-claims t) (walk-fields-at t) walk-fields.Post walk-fields-Inv-loop walk-fields-μ-loop)
+    → let l = c .before .before .before .before .before in
+    let a = l .before .before .before .args in
+    fields.Turn (a .ty .now) (a .at) (a .n) (a .bytes .now) (a .i) (a .depth) (a .asked)
+    (l .loop .a) (l .loop .left) (l .loop .j) (l .loop .w) (l .loop .p) (l .loop .b) (c .walk-value .result)
+turn t c =
+    let f = c .before .before .before in
+    record {
+      no = f .field-refusal .result;
+      one = c .before .asks .result;
+      turned = f .before .before .loop .inv;
+      some = f .before .loop-test .taken;
+      begins = f .field-refusal .ensures;
+      yes = c .before .before .if1 .left;
+      asks = c .before .asks .ensures;
+      value = c .walk-value .ensures;
+    }
 
-walk-fields-returns : (t : ℕ) → walk-fields-lts.Need-returns (ends-here-reads.Asked, ends-here-reads.Learnt, asks-reads.Asked, asks-reads.Learnt, walk-value-below t, walk-value.Post) (walk-fields-at t) walk-fields.Post walk-fields-Inv-loop walk-fields-μ-loop
-walk-fields-returns t c = let s = c .before .before .before .before .before in let g = s .args in let l = c .before .before .loop in l .inv .so-far _ (laws.g-eof (g .ty .now) (l .a) (l .left) (g .bytes .now) (l .j) (g .depth) (l .p1) (l .b1) (g .asked) (l .inv .bounds) (c .if1 .taken))
+opened-record : (t : ℕ) (c : walk-value-lts.After-open-record (walk-value-claims t) (walk-value-at t) walk-value.Post)
+    → let a = c .before .before .before .before .before .before .before .before .args in
+    laws.OpenedRecord (a .ty .now) (a .at) (a .bytes .now) (a .i) (a .depth) (c .open-record .result)
+opened-record t c =
+    let k = c .before .before .before in
+    let s = k .before .before .before .before .before in
+    laws.record-opened (s .args .bytes .now) (s .args .i) (s .args .depth) (s .pre .1) (s .good .0 .1) (k .if2 .taken) (c .open-record .ensures)
 
-walk-fields-ends-here-requires : (t : ℕ) → walk-fields-lts.Need-ends-here-requires (ends-here-reads.Asked, ends-here-reads.Learnt, asks-reads.Asked, asks-reads.Learnt, walk-value-below t, walk-value.Post) (walk-fields-at t) walk-fields.Post walk-fields-Inv-loop walk-fields-μ-loop
-walk-fields-ends-here-requires t c κs = search needs
+in-record : (t : ℕ) (c : walk-value-lts.After-used (walk-value-claims t) (walk-value-at t) walk-value.Post)
+    → let a = c .before .before .before .before .before .before .before .before .before .before .args in
+    laws.InRecord (a .ty .now) (a .at) (a .bytes .now) (a .i) (a .depth) (c .used .given .0 .0)
+in-record t c = record { o = c .before .before .open-record .result; opened = opened-record t (c .before .before); done = c .used .given .1 }
 
-walk-fields-returns-2 : (t : ℕ) → walk-fields-lts.Need-returns-2 (ends-here-reads.Asked, ends-here-reads.Learnt, asks-reads.Asked, asks-reads.Learnt, walk-value-below t, walk-value.Post) (walk-fields-at t) walk-fields.Post walk-fields-Inv-loop walk-fields-μ-loop
-walk-fields-returns-2 t c = let s = c .before .before .before .before .before .before .before in let g = s .args in let l = c .before .before .before .before .loop in l .inv .so-far _ (laws.g-early (g .ty .now) (l .a) (l .left) (g .bytes .now) (l .j) (g .depth) (l .p1) (l .b1) (g .asked) (l .inv .bounds) (c .before .before .if1 .left) _ (c .before .ends-here .ensures) (c .before .before .before .loop-test .taken) (c .if2 .taken))
+opened-union : (t : ℕ) (c : walk-value-lts.After-open-union (walk-value-claims t) (walk-value-at t) walk-value.Post)
+    → let a = c .before .before .before .before .before .before .before .args in
+    laws.OpenedUnion (a .ty .now) (a .at) (a .bytes .now) (a .i) (a .depth) (c .open-union .result)
+opened-union t c =
+    let k = c .before .before in
+    let s = k .before .before .before .before .before in
+    laws.union-opened (s .args .bytes .now) (s .args .i) (s .args .depth) (s .pre .1) (s .good .0 .1) (k .before .if1 .left) (k .if2 .left) (c .open-union .ensures)
 
-walk-fields-asks-requires : (t : ℕ) → walk-fields-lts.Need-asks-requires (ends-here-reads.Asked, ends-here-reads.Learnt, asks-reads.Asked, asks-reads.Learnt, walk-value-below t, walk-value.Post) (walk-fields-at t) walk-fields.Post walk-fields-Inv-loop walk-fields-μ-loop
+in-union : (t : ℕ) (c : walk-value-lts.After-alternative (walk-value-claims t) (walk-value-at t) walk-value.Post)
+    → let g = c .before .before in
+    let a = g .before .before .before .before .before .before .before .before .before .args in
+    laws.InUnion (a .ty .now) (a .at) (a .bytes .now) (a .i) (a .depth) (g .tag .given .0 .0) (g .tag .given .0 .1 .0) (c .alternative .result .place) (c .alternative .result .left)
+in-union t c =
+    let g = c .before .before in
+    record { o = g .before .before .open-union .result; opened = opened-union t (g .before .before); tagged = g .tag .given .1; picks = c .alternative .ensures }
+
+walk-fields-loop-holds : (t : ℕ) → walk-fields-lts.Need-loop-holds (walk-fields-claims t) (walk-fields-at t) walk-fields.Post walk-fields-Inv-loop walk-fields-μ-loop
+walk-fields-loop-holds t c =
+    let s = c .before .before in
+    fields.t-start (s .pre .1 .0) (s .pre .1 .1)
+
+walk-fields-field-refusal-requires : (t : ℕ) → walk-fields-lts.Need-field-refusal-requires (walk-fields-claims t) (walk-fields-at t) walk-fields.Post walk-fields-Inv-loop walk-fields-μ-loop
+walk-fields-field-refusal-requires t c κs = c .before .loop .inv .place
+
+walk-fields-bad-requires : (t : ℕ) → walk-fields-lts.Need-bad-requires (walk-fields-claims t) (walk-fields-at t) walk-fields.Post walk-fields-Inv-loop walk-fields-μ-loop
+walk-fields-bad-requires t c κs = search needs
+
+walk-fields-returns : (t : ℕ) → walk-fields-lts.Need-returns (walk-fields-claims t) (walk-fields-at t) walk-fields.Post walk-fields-Inv-loop walk-fields-μ-loop
+walk-fields-returns t c =
+    let at-if1 = c .before in
+    let at-field-refusal = at-if1 .before in
+    let at-loop-test = at-field-refusal .before in
+    rw (c .bad .ensures) (fields.t-not (at-loop-test .before .loop .inv) (at-loop-test .loop-test .taken) (at-field-refusal .field-refusal .ensures) (at-if1 .if1 .taken))
+
+walk-fields-asks-requires : (t : ℕ) → walk-fields-lts.Need-asks-requires (walk-fields-claims t) (walk-fields-at t) walk-fields.Post walk-fields-Inv-loop walk-fields-μ-loop
 walk-fields-asks-requires t c κs = search needs
 
-walk-fields-walk-value-requires : (t : ℕ) → walk-fields-lts.Need-walk-value-requires (ends-here-reads.Asked, ends-here-reads.Learnt, asks-reads.Asked, asks-reads.Learnt, walk-value-below t, walk-value.Post) (walk-fields-at t) walk-fields.Post walk-fields-Inv-loop walk-fields-μ-loop
-walk-fields-walk-value-requires t c κs = let s = c .before .before .before .before .before .before .before .before in let g = s .args in let l = c .before .before .before .before .before .loop in (omega (arith, s .pre .0, l .inv .on (c .before .before .before .before .loop-test .taken)), (laws.fields-head (g .ty .now) (l .a) (l .left) (c .before .before .before .before .loop-test .taken) (l .inv .fields (c .before .before .before .before .loop-test .taken)), l .inv .bounds))
+walk-fields-walk-value-requires : (t : ℕ) → walk-fields-lts.Need-walk-value-requires (walk-fields-claims t) (walk-fields-at t) walk-fields.Post walk-fields-Inv-loop walk-fields-μ-loop
+walk-fields-walk-value-requires t c κs =
+    let at-loop-test = c .before .before .before in
+    let l = at-loop-test .before in
+    let s = l .before .before .before in
+    (omega (arith, s .pre .0, l .loop .inv .few (at-loop-test .loop-test .taken)), (fields.t-type (l .loop .inv) (at-loop-test .loop-test .taken), l .loop .inv .place))
 
-walk-fields-enum-known-no : (t : ℕ) → walk-fields-lts.Need-enum-known-no (ends-here-reads.Asked, ends-here-reads.Learnt, asks-reads.Asked, asks-reads.Learnt, walk-value-below t, walk-value.Post) (walk-fields-at t) walk-fields.Post walk-fields-Inv-loop walk-fields-μ-loop
+walk-fields-enum-known-no : (t : ℕ) → walk-fields-lts.Need-enum-known-no (walk-fields-claims t) (walk-fields-at t) walk-fields.Post walk-fields-Inv-loop walk-fields-μ-loop
 walk-fields-enum-known-no t c = search needs
 
-walk-fields-returns-3 : (t : ℕ) → walk-fields-lts.Need-returns-3 (ends-here-reads.Asked, ends-here-reads.Learnt, asks-reads.Asked, asks-reads.Learnt, walk-value-below t, walk-value.Post) (walk-fields-at t) walk-fields.Post walk-fields-Inv-loop walk-fields-μ-loop
-walk-fields-returns-3 t c = let s = c .before .before .before .before .before .before .before .before .before .before .before .before in let g = s .args in let l = c .before .before .before .before .before .before .before .before .before .loop in l .inv .so-far _ (laws.f-bad (inGroup (g .depth)) (g .ty .now) (l .a) (l .left) (g .bytes .now) (l .j) (g .depth) (l .p1) (l .b1) (g .asked) (laws.group-steps (g .bytes .now) (l .j) (g .depth) (c .before .before .before .before .before .before .before .if1 .left) _ (c .before .before .before .before .before .before .ends-here .ensures) (c .before .before .before .before .before .if2 .left)) (c .before .before .before .before .before .before .before .before .loop-test .taken) (c .before .before .before .before .asks .result) (c .before .before .before .before .asks .ensures) (c .before .before .before .walk-value .result) (c .before .before .before .walk-value .ensures) _ _ _ (c .before .no .given .1))
+walk-fields-add-bad : (t : ℕ) → walk-fields-lts.Need-add-bad (walk-fields-claims t) (walk-fields-at t) walk-fields.Post walk-fields-Inv-loop walk-fields-μ-loop
+walk-fields-add-bad t c =
+    let at-no = c .before in
+    let at-walk-value = at-no .before .before in
+    let s = at-walk-value .before .before .before .before .before .before .before .before in
+    omega (arith, fields.t-few (turn t at-walk-value) (at-no .no .given .1), s .good .0 .0)
 
-walk-fields-enum-known-a2 : (t : ℕ) → walk-fields-lts.Need-enum-known-a2 (ends-here-reads.Asked, ends-here-reads.Learnt, asks-reads.Asked, asks-reads.Learnt, walk-value-below t, walk-value.Post) (walk-fields-at t) walk-fields.Post walk-fields-Inv-loop walk-fields-μ-loop
-walk-fields-enum-known-a2 t c = search needs
+walk-fields-bad-requires-2 : (t : ℕ) → walk-fields-lts.Need-bad-requires-2 (walk-fields-claims t) (walk-fields-at t) walk-fields.Post walk-fields-Inv-loop walk-fields-μ-loop
+walk-fields-bad-requires-2 t c κs = search needs
 
-walk-fields-sub-left : (t : ℕ) → walk-fields-lts.Need-sub-left (ends-here-reads.Asked, ends-here-reads.Learnt, asks-reads.Asked, asks-reads.Learnt, walk-value-below t, walk-value.Post) (walk-fields-at t) walk-fields.Post walk-fields-Inv-loop walk-fields-μ-loop
-walk-fields-sub-left t c = omega arith
+walk-fields-returns-2 : (t : ℕ) → walk-fields-lts.Need-returns-2 (walk-fields-claims t) (walk-fields-at t) walk-fields.Post walk-fields-Inv-loop walk-fields-μ-loop
+walk-fields-returns-2 t c =
+    let at-no = c .before .before in
+    rw (c .bad2 .ensures) (fields.t-bad (turn t (at-no .before .before)) (at-no .no .given .1))
 
-walk-fields-loop-less : (t : ℕ) → walk-fields-lts.Need-loop-less (ends-here-reads.Asked, ends-here-reads.Learnt, asks-reads.Asked, asks-reads.Learnt, walk-value-below t, walk-value.Post) (walk-fields-at t) walk-fields.Post walk-fields-Inv-loop walk-fields-μ-loop
-walk-fields-loop-less t c = omega arith
+walk-fields-enum-known-behind : (t : ℕ) → walk-fields-lts.Need-enum-known-behind (walk-fields-claims t) (walk-fields-at t) walk-fields.Post walk-fields-Inv-loop walk-fields-μ-loop
+walk-fields-enum-known-behind t c = search needs
 
-walk-fields-loop-again : (t : ℕ) → walk-fields-lts.Need-loop-again (ends-here-reads.Asked, ends-here-reads.Learnt, asks-reads.Asked, asks-reads.Learnt, walk-value-below t, walk-value.Post) (walk-fields-at t) walk-fields.Post walk-fields-Inv-loop walk-fields-μ-loop
-walk-fields-loop-again t c = let s = c .before .before .before .before .before .before .before .before .before .before .before .before in let g = s .args in let l = c .before .before .before .before .before .before .before .before .before .loop in let f = laws.f-next (inGroup (g .depth)) (g .ty .now) (l .a) (l .left) (g .bytes .now) (l .j) (g .depth) (l .p1) (l .b1) (g .asked) (laws.group-steps (g .bytes .now) (l .j) (g .depth) (c .before .before .before .before .before .before .before .if1 .left) _ (c .before .before .before .before .before .before .ends-here .ensures) (c .before .before .before .before .before .if2 .left)) (c .before .before .before .before .before .before .before .before .loop-test .taken) (c .before .before .before .before .asks .result) (c .before .before .before .before .asks .ensures) (c .before .before .before .walk-value .result) (c .before .before .before .walk-value .ensures) _ _ _ _ (c .before .a2 .given .1) (l .inv .fields (c .before .before .before .before .before .before .before .before .loop-test .taken)) in record { fields = λ h. f .0 h .2; bounds = f .1; on = λ h. omega (arith, f .0 h .0, l .inv .on (c .before .before .before .before .before .before .before .before .loop-test .taken)); so-far = λ r h. l .inv .so-far r (laws.f-more (inGroup (g .depth)) (g .ty .now) (l .a) (l .left) (g .bytes .now) (l .j) (g .depth) (l .p1) (l .b1) (g .asked) (laws.group-steps (g .bytes .now) (l .j) (g .depth) (c .before .before .before .before .before .before .before .if1 .left) _ (c .before .before .before .before .before .before .ends-here .ensures) (c .before .before .before .before .before .if2 .left)) (c .before .before .before .before .before .before .before .before .loop-test .taken) (c .before .before .before .before .asks .result) (c .before .before .before .before .asks .ensures) (c .before .before .before .walk-value .result) (c .before .before .before .walk-value .ensures) _ _ _ _ (c .before .a2 .given .1) r h) }
+walk-fields-add-w : (t : ℕ) → walk-fields-lts.Need-add-w (walk-fields-claims t) (walk-fields-at t) walk-fields.Post walk-fields-Inv-loop walk-fields-μ-loop
+walk-fields-add-w t c =
+    let at-behind = c .before in
+    let at-walk-value = at-behind .before .before in
+    let s = at-walk-value .before .before .before .before .before .before .before .before in
+    omega (arith, fields.t-sums (turn t at-walk-value) (at-behind .behind .given .1) .0, s .good .0 .1)
 
-walk-fields-returns-4 : (t : ℕ) → walk-fields-lts.Need-returns-4 (ends-here-reads.Asked, ends-here-reads.Learnt, asks-reads.Asked, asks-reads.Learnt, walk-value-below t, walk-value.Post) (walk-fields-at t) walk-fields.Post walk-fields-Inv-loop walk-fields-μ-loop
-walk-fields-returns-4 t c = let s = c .before .before .before .before .before in let g = s .args in let l = c .before .before .loop in l .inv .so-far _ (laws.g-eof (g .ty .now) (l .a) (l .left) (g .bytes .now) (l .j) (g .depth) (l .p1) (l .b1) (g .asked) (l .inv .bounds) (c .if3 .taken))
+walk-fields-add-p : (t : ℕ) → walk-fields-lts.Need-add-p (walk-fields-claims t) (walk-fields-at t) walk-fields.Post walk-fields-Inv-loop walk-fields-μ-loop
+walk-fields-add-p t c =
+    let at-behind = c .before in
+    let at-walk-value = at-behind .before .before in
+    let s = at-walk-value .before .before .before .before .before .before .before .before in
+    omega (arith, fields.t-sums (turn t at-walk-value) (at-behind .behind .given .1) .1, s .good .1 .1 .1 .0 .0)
 
-walk-fields-ends-here-requires-2 : (t : ℕ) → walk-fields-lts.Need-ends-here-requires-2 (ends-here-reads.Asked, ends-here-reads.Learnt, asks-reads.Asked, asks-reads.Learnt, walk-value-below t, walk-value.Post) (walk-fields-at t) walk-fields.Post walk-fields-Inv-loop walk-fields-μ-loop
-walk-fields-ends-here-requires-2 t c κs = search needs
+walk-fields-add-b : (t : ℕ) → walk-fields-lts.Need-add-b (walk-fields-claims t) (walk-fields-at t) walk-fields.Post walk-fields-Inv-loop walk-fields-μ-loop
+walk-fields-add-b t c =
+    let at-behind = c .before in
+    let at-walk-value = at-behind .before .before in
+    let s = at-walk-value .before .before .before .before .before .before .before .before in
+    omega (arith, fields.t-sums (turn t at-walk-value) (at-behind .behind .given .1) .2, s .good .0 .0)
 
-walk-fields-add-end : (t : ℕ) → walk-fields-lts.Need-add-end (ends-here-reads.Asked, ends-here-reads.Learnt, asks-reads.Asked, asks-reads.Learnt, walk-value-below t, walk-value.Post) (walk-fields-at t) walk-fields.Post walk-fields-Inv-loop walk-fields-μ-loop
-walk-fields-add-end t c = omega arith
+walk-fields-sub-left : (t : ℕ) → walk-fields-lts.Need-sub-left (walk-fields-claims t) (walk-fields-at t) walk-fields.Post walk-fields-Inv-loop walk-fields-μ-loop
+walk-fields-sub-left t c = search needs
 
-walk-fields-returns-5 : (t : ℕ) → walk-fields-lts.Need-returns-5 (ends-here-reads.Asked, ends-here-reads.Learnt, asks-reads.Asked, asks-reads.Learnt, walk-value-below t, walk-value.Post) (walk-fields-at t) walk-fields.Post walk-fields-Inv-loop walk-fields-μ-loop
-walk-fields-returns-5 t c = let s = c .before .before .before .before .before .before .before in let g = s .args in let l = c .before .before .before .before .loop in l .inv .so-far _ (laws.g-end (g .ty .now) (l .a) (l .left) (g .bytes .now) (l .j) (g .depth) (l .p1) (l .b1) (g .asked) (l .inv .bounds) (c .before .before .if3 .left) _ (c .before .ends-here2 .ensures) (c .before .before .before .loop-test .left) (c .if4 .taken))
+walk-fields-loop-less : (t : ℕ) → walk-fields-lts.Need-loop-less (walk-fields-claims t) (walk-fields-at t) walk-fields.Post walk-fields-Inv-loop walk-fields-μ-loop
+walk-fields-loop-less t c = search needs
 
-walk-fields-returns-6 : (t : ℕ) → walk-fields-lts.Need-returns-6 (ends-here-reads.Asked, ends-here-reads.Learnt, asks-reads.Asked, asks-reads.Learnt, walk-value-below t, walk-value.Post) (walk-fields-at t) walk-fields.Post walk-fields-Inv-loop walk-fields-μ-loop
-walk-fields-returns-6 t c = let s = c .before .before .before .before .before .before .before in let g = s .args in let l = c .before .before .before .before .loop in l .inv .so-far _ (laws.g-late (g .ty .now) (l .a) (l .left) (g .bytes .now) (l .j) (g .depth) (l .p1) (l .b1) (g .asked) (l .inv .bounds) (c .before .before .if3 .left) _ (c .before .ends-here2 .ensures) (c .before .before .before .loop-test .left) (c .if4 .left))
+walk-fields-loop-again : (t : ℕ) → walk-fields-lts.Need-loop-again (walk-fields-claims t) (walk-fields-at t) walk-fields.Post walk-fields-Inv-loop walk-fields-μ-loop
+walk-fields-loop-again t c =
+    let at-behind = c .before in
+    fields.t-next (turn t (at-behind .before .before)) (at-behind .behind .given .1)
 
-walk-value-mul-kind : (t : ℕ) → walk-value-lts.Need-mul-kind (walk-int-reads.Asked, walk-int-reads.Learnt, walk-str-reads.Asked, walk-str-reads.Learnt, walk-bytes-reads.Asked, walk-bytes-reads.Learnt, walk-ref-reads.Asked, walk-ref-reads.Learnt, open-record-reads.Asked, open-record-reads.Learnt, walk-fields-below t, walk-fields.Post, open-union-reads.Asked, open-union-reads.Learnt, alternative-reads.Asked, alternative-reads.Learnt, walk-value-below t, walk-value.Post, close-union-reads.Asked, close-union-reads.Learnt, union-end-reads.Asked, union-end-reads.Learnt) (walk-value-at t) walk-value.Post
+walk-fields-fields-end-requires : (t : ℕ) → walk-fields-lts.Need-fields-end-requires (walk-fields-claims t) (walk-fields-at t) walk-fields.Post walk-fields-Inv-loop walk-fields-μ-loop
+walk-fields-fields-end-requires t c κs = c .before .loop .inv .place
+
+walk-fields-enum-known-no-2 : (t : ℕ) → walk-fields-lts.Need-enum-known-no-2 (walk-fields-claims t) (walk-fields-at t) walk-fields.Post walk-fields-Inv-loop walk-fields-μ-loop
+walk-fields-enum-known-no-2 t c = search needs
+
+walk-fields-bad-requires-3 : (t : ℕ) → walk-fields-lts.Need-bad-requires-3 (walk-fields-claims t) (walk-fields-at t) walk-fields.Post walk-fields-Inv-loop walk-fields-μ-loop
+walk-fields-bad-requires-3 t c κs = search needs
+
+walk-fields-enum-known-next : (t : ℕ) → walk-fields-lts.Need-enum-known-next (walk-fields-claims t) (walk-fields-at t) walk-fields.Post walk-fields-Inv-loop walk-fields-μ-loop
+walk-fields-enum-known-next t c = search needs
+
+walk-fields-returns-3 : (t : ℕ) → walk-fields-lts.Need-returns-3 (walk-fields-claims t) (walk-fields-at t) walk-fields.Post walk-fields-Inv-loop walk-fields-μ-loop
+walk-fields-returns-3 t c =
+    let at-no2 = c .before .before in
+    let at-fields-end = at-no2 .before .before in
+    let at-loop-test = at-fields-end .before in
+    rw (c .bad3 .ensures)
+    (fields.t-end (at-loop-test .before .loop .inv) (at-loop-test .loop-test .left) (rw (at-no2 .no2 .given .1) at (at-fields-end .fields-end .ensures)))
+
+walk-fields-returns-4 : (t : ℕ) → walk-fields-lts.Need-returns-4 (walk-fields-claims t) (walk-fields-at t) walk-fields.Post walk-fields-Inv-loop walk-fields-μ-loop
+walk-fields-returns-4 t c =
+    let at-next = c .before in
+    let at-fields-end = at-next .before .before in
+    let at-loop-test = at-fields-end .before in
+    fields.t-done (at-loop-test .before .loop .inv) (at-loop-test .loop-test .left) (rw (at-next .next .given .1) at (at-fields-end .fields-end .ensures))
+
+walk-value-mul-kind : (t : ℕ) → walk-value-lts.Need-mul-kind (walk-value-claims t) (walk-value-at t) walk-value.Post
 walk-value-mul-kind t c = search needs
 
-walk-value-shared-slice-read-kind : (t : ℕ) → walk-value-lts.Need-shared-slice-read-kind (walk-int-reads.Asked, walk-int-reads.Learnt, walk-str-reads.Asked, walk-str-reads.Learnt, walk-bytes-reads.Asked, walk-bytes-reads.Learnt, walk-ref-reads.Asked, walk-ref-reads.Learnt, open-record-reads.Asked, open-record-reads.Learnt, walk-fields-below t, walk-fields.Post, open-union-reads.Asked, open-union-reads.Learnt, alternative-reads.Asked, alternative-reads.Learnt, walk-value-below t, walk-value.Post, close-union-reads.Asked, close-union-reads.Learnt, union-end-reads.Asked, union-end-reads.Learnt) (walk-value-at t) walk-value.Post
-walk-value-shared-slice-read-kind t c = let s = c .before .before .before in let a = s .args in omega (arith, laws.at-in (a .ty .now) (a .at) (s .pre .1 .0), s .good .0)
+walk-value-shared-slice-read-kind : (t : ℕ) → walk-value-lts.Need-shared-slice-read-kind (walk-value-claims t) (walk-value-at t) walk-value.Post
+walk-value-shared-slice-read-kind t c =
+    let s = c .before .before .before in
+    omega (arith, laws.at-in (s .pre .1 .0))
 
-walk-value-add-j : (t : ℕ) → walk-value-lts.Need-add-j (walk-int-reads.Asked, walk-int-reads.Learnt, walk-str-reads.Asked, walk-str-reads.Learnt, walk-bytes-reads.Asked, walk-bytes-reads.Learnt, walk-ref-reads.Asked, walk-ref-reads.Learnt, open-record-reads.Asked, open-record-reads.Learnt, walk-fields-below t, walk-fields.Post, open-union-reads.Asked, open-union-reads.Learnt, alternative-reads.Asked, alternative-reads.Learnt, walk-value-below t, walk-value.Post, close-union-reads.Asked, close-union-reads.Learnt, union-end-reads.Asked, union-end-reads.Learnt) (walk-value-at t) walk-value.Post
-walk-value-add-j t c = let s = c .before .before .before in let a = s .args in omega (arith, laws.at-in (a .ty .now) (a .at) (s .pre .1 .0), s .good .0)
+walk-value-sub-walk-scalar : (t : ℕ) → walk-value-lts.Need-sub-walk-scalar (walk-value-claims t) (walk-value-at t) walk-value.Post
+walk-value-sub-walk-scalar t c = search needs
 
-walk-value-walk-int-requires : (t : ℕ) → walk-value-lts.Need-walk-int-requires (walk-int-reads.Asked, walk-int-reads.Learnt, walk-str-reads.Asked, walk-str-reads.Learnt, walk-bytes-reads.Asked, walk-bytes-reads.Learnt, walk-ref-reads.Asked, walk-ref-reads.Learnt, open-record-reads.Asked, open-record-reads.Learnt, walk-fields-below t, walk-fields.Post, open-union-reads.Asked, open-union-reads.Learnt, alternative-reads.Asked, alternative-reads.Learnt, walk-value-below t, walk-value.Post, close-union-reads.Asked, close-union-reads.Learnt, union-end-reads.Asked, union-end-reads.Learnt) (walk-value-at t) walk-value.Post
-walk-value-walk-int-requires t c κs = c .before .before .before .before .pre .1 .1
+walk-value-part-walk-scalar-start : (t : ℕ) → walk-value-lts.Need-part-walk-scalar-start (walk-value-claims t) (walk-value-at t) walk-value.Post
+walk-value-part-walk-scalar-start t c = search needs
 
-walk-value-returns : (t : ℕ) → walk-value-lts.Need-returns (walk-int-reads.Asked, walk-int-reads.Learnt, walk-str-reads.Asked, walk-str-reads.Learnt, walk-bytes-reads.Asked, walk-bytes-reads.Learnt, walk-ref-reads.Asked, walk-ref-reads.Learnt, open-record-reads.Asked, open-record-reads.Learnt, walk-fields-below t, walk-fields.Post, open-union-reads.Asked, open-union-reads.Learnt, alternative-reads.Asked, alternative-reads.Learnt, walk-value-below t, walk-value.Post, close-union-reads.Asked, close-union-reads.Learnt, union-end-reads.Asked, union-end-reads.Learnt) (walk-value-at t) walk-value.Post
-walk-value-returns t c = let s = c .before .before .before .before .before in let a = s .args in laws.v-int (a .ty .now) (a .at) (a .bytes .now) (a .i) (a .depth) (a .p) (a .b) (a .asked) _ (c .before .if1 .taken) (c .walk-int .ensures)
+walk-value-part-walk-scalar-end : (t : ℕ) → walk-value-lts.Need-part-walk-scalar-end (walk-value-claims t) (walk-value-at t) walk-value.Post
+walk-value-part-walk-scalar-end t c = search needs
 
-walk-value-walk-str-requires : (t : ℕ) → walk-value-lts.Need-walk-str-requires (walk-int-reads.Asked, walk-int-reads.Learnt, walk-str-reads.Asked, walk-str-reads.Learnt, walk-bytes-reads.Asked, walk-bytes-reads.Learnt, walk-ref-reads.Asked, walk-ref-reads.Learnt, open-record-reads.Asked, open-record-reads.Learnt, walk-fields-below t, walk-fields.Post, open-union-reads.Asked, open-union-reads.Learnt, alternative-reads.Asked, alternative-reads.Learnt, walk-value-below t, walk-value.Post, close-union-reads.Asked, close-union-reads.Learnt, union-end-reads.Asked, union-end-reads.Learnt) (walk-value-at t) walk-value.Post
-walk-value-walk-str-requires t c κs = c .before .before .before .before .before .pre .1 .1
+walk-value-walk-scalar-requires : (t : ℕ) → walk-value-lts.Need-walk-scalar-requires (walk-value-claims t) (walk-value-at t) walk-value.Post
+walk-value-walk-scalar-requires t c κs =
+    let at-if1 = c .before in
+    let s = at-if1 .before .before .before .before in
+    (s .pre .1 .0, (at-if1 .if1 .taken, omega (arith, laws.rest-room (s .args .bytes .now) (s .args .i) (s .pre .1 .1))))
 
-walk-value-returns-2 : (t : ℕ) → walk-value-lts.Need-returns-2 (walk-int-reads.Asked, walk-int-reads.Learnt, walk-str-reads.Asked, walk-str-reads.Learnt, walk-bytes-reads.Asked, walk-bytes-reads.Learnt, walk-ref-reads.Asked, walk-ref-reads.Learnt, open-record-reads.Asked, open-record-reads.Learnt, walk-fields-below t, walk-fields.Post, open-union-reads.Asked, open-union-reads.Learnt, alternative-reads.Asked, alternative-reads.Learnt, walk-value-below t, walk-value.Post, close-union-reads.Asked, close-union-reads.Learnt, union-end-reads.Asked, union-end-reads.Learnt) (walk-value-at t) walk-value.Post
-walk-value-returns-2 t c = let s = c .before .before .before .before .before .before in let a = s .args in laws.v-str (a .ty .now) (a .at) (a .bytes .now) (a .i) (a .depth) (a .p) (a .b) (a .asked) _ (c .before .if2 .taken) (c .walk-str .ensures)
+walk-value-returns : (t : ℕ) → walk-value-lts.Need-returns (walk-value-claims t) (walk-value-at t) walk-value.Post
+walk-value-returns t c =
+    let s = c .before .before .before .before .before .before in
+    laws.v-scalar (s .pre .1 .1) (c .walk-scalar .ensures)
 
-walk-value-walk-bytes-requires : (t : ℕ) → walk-value-lts.Need-walk-bytes-requires (walk-int-reads.Asked, walk-int-reads.Learnt, walk-str-reads.Asked, walk-str-reads.Learnt, walk-bytes-reads.Asked, walk-bytes-reads.Learnt, walk-ref-reads.Asked, walk-ref-reads.Learnt, open-record-reads.Asked, open-record-reads.Learnt, walk-fields-below t, walk-fields.Post, open-union-reads.Asked, open-union-reads.Learnt, alternative-reads.Asked, alternative-reads.Learnt, walk-value-below t, walk-value.Post, close-union-reads.Asked, close-union-reads.Learnt, union-end-reads.Asked, union-end-reads.Learnt) (walk-value-at t) walk-value.Post
-walk-value-walk-bytes-requires t c κs = c .before .before .before .before .before .before .pre .1 .1
+walk-value-add-n : (t : ℕ) → walk-value-lts.Need-add-n (walk-value-claims t) (walk-value-at t) walk-value.Post
+walk-value-add-n t c =
+    let s = c .before .before .before .before .before in
+    omega (arith, laws.second-in (s .pre .1 .0) (c .if2 .taken))
 
-walk-value-returns-3 : (t : ℕ) → walk-value-lts.Need-returns-3 (walk-int-reads.Asked, walk-int-reads.Learnt, walk-str-reads.Asked, walk-str-reads.Learnt, walk-bytes-reads.Asked, walk-bytes-reads.Learnt, walk-ref-reads.Asked, walk-ref-reads.Learnt, open-record-reads.Asked, open-record-reads.Learnt, walk-fields-below t, walk-fields.Post, open-union-reads.Asked, open-union-reads.Learnt, alternative-reads.Asked, alternative-reads.Learnt, walk-value-below t, walk-value.Post, close-union-reads.Asked, close-union-reads.Learnt, union-end-reads.Asked, union-end-reads.Learnt) (walk-value-at t) walk-value.Post
-walk-value-returns-3 t c = let s = c .before .before .before .before .before .before .before in let a = s .args in laws.v-bytes (a .ty .now) (a .at) (a .bytes .now) (a .i) (a .depth) (a .p) (a .b) (a .asked) _ (c .before .if3 .taken) (c .walk-bytes .ensures)
-
-walk-value-mul-n : (t : ℕ) → walk-value-lts.Need-mul-n (walk-int-reads.Asked, walk-int-reads.Learnt, walk-str-reads.Asked, walk-str-reads.Learnt, walk-bytes-reads.Asked, walk-bytes-reads.Learnt, walk-ref-reads.Asked, walk-ref-reads.Learnt, open-record-reads.Asked, open-record-reads.Learnt, walk-fields-below t, walk-fields.Post, open-union-reads.Asked, open-union-reads.Learnt, alternative-reads.Asked, alternative-reads.Learnt, walk-value-below t, walk-value.Post, close-union-reads.Asked, close-union-reads.Learnt, union-end-reads.Asked, union-end-reads.Learnt) (walk-value-at t) walk-value.Post
+walk-value-mul-n : (t : ℕ) → walk-value-lts.Need-mul-n (walk-value-claims t) (walk-value-at t) walk-value.Post
 walk-value-mul-n t c = search needs
 
-walk-value-shared-slice-read-n : (t : ℕ) → walk-value-lts.Need-shared-slice-read-n (walk-int-reads.Asked, walk-int-reads.Learnt, walk-str-reads.Asked, walk-str-reads.Learnt, walk-bytes-reads.Asked, walk-bytes-reads.Learnt, walk-ref-reads.Asked, walk-ref-reads.Learnt, open-record-reads.Asked, open-record-reads.Learnt, walk-fields-below t, walk-fields.Post, open-union-reads.Asked, open-union-reads.Learnt, alternative-reads.Asked, alternative-reads.Learnt, walk-value-below t, walk-value.Post, close-union-reads.Asked, close-union-reads.Learnt, union-end-reads.Asked, union-end-reads.Learnt) (walk-value-at t) walk-value.Post
-walk-value-shared-slice-read-n t c = let s = c .before .before .before .before .before .before .before in let a = s .args in omega (arith, laws.second-in (a .ty .now) (a .at) (c .before .before .before .if1 .left) (c .before .before .if2 .left) (c .before .if3 .left) (s .pre .1 .0))
+walk-value-shared-slice-read-n : (t : ℕ) → walk-value-lts.Need-shared-slice-read-n (walk-value-claims t) (walk-value-at t) walk-value.Post
+walk-value-shared-slice-read-n t c =
+    let at-if2 = c .before in
+    let s = at-if2 .before .before .before .before .before in
+    omega (arith, laws.second-in (s .pre .1 .0) (at-if2 .if2 .taken))
 
-walk-value-add-walk-ref : (t : ℕ) → walk-value-lts.Need-add-walk-ref (walk-int-reads.Asked, walk-int-reads.Learnt, walk-str-reads.Asked, walk-str-reads.Learnt, walk-bytes-reads.Asked, walk-bytes-reads.Learnt, walk-ref-reads.Asked, walk-ref-reads.Learnt, open-record-reads.Asked, open-record-reads.Learnt, walk-fields-below t, walk-fields.Post, open-union-reads.Asked, open-union-reads.Learnt, alternative-reads.Asked, alternative-reads.Learnt, walk-value-below t, walk-value.Post, close-union-reads.Asked, close-union-reads.Learnt, union-end-reads.Asked, union-end-reads.Learnt) (walk-value-at t) walk-value.Post
-walk-value-add-walk-ref t c = let s = c .before .before .before .before .before .before .before .before in let a = s .args in omega (arith, laws.at-in (a .ty .now) (a .at) (s .pre .1 .0), s .good .0)
+walk-value-sub-open-record : (t : ℕ) → walk-value-lts.Need-sub-open-record (walk-value-claims t) (walk-value-at t) walk-value.Post
+walk-value-sub-open-record t c = search needs
 
-walk-value-walk-ref-requires : (t : ℕ) → walk-value-lts.Need-walk-ref-requires (walk-int-reads.Asked, walk-int-reads.Learnt, walk-str-reads.Asked, walk-str-reads.Learnt, walk-bytes-reads.Asked, walk-bytes-reads.Learnt, walk-ref-reads.Asked, walk-ref-reads.Learnt, open-record-reads.Asked, open-record-reads.Learnt, walk-fields-below t, walk-fields.Post, open-union-reads.Asked, open-union-reads.Learnt, alternative-reads.Asked, alternative-reads.Learnt, walk-value-below t, walk-value.Post, close-union-reads.Asked, close-union-reads.Learnt, union-end-reads.Asked, union-end-reads.Learnt) (walk-value-at t) walk-value.Post
-walk-value-walk-ref-requires t c κs = c .before .before .before .before .before .before .before .before .pre .1 .1
+walk-value-part-open-record-start : (t : ℕ) → walk-value-lts.Need-part-open-record-start (walk-value-claims t) (walk-value-at t) walk-value.Post
+walk-value-part-open-record-start t c = search needs
 
-walk-value-returns-4 : (t : ℕ) → walk-value-lts.Need-returns-4 (walk-int-reads.Asked, walk-int-reads.Learnt, walk-str-reads.Asked, walk-str-reads.Learnt, walk-bytes-reads.Asked, walk-bytes-reads.Learnt, walk-ref-reads.Asked, walk-ref-reads.Learnt, open-record-reads.Asked, open-record-reads.Learnt, walk-fields-below t, walk-fields.Post, open-union-reads.Asked, open-union-reads.Learnt, alternative-reads.Asked, alternative-reads.Learnt, walk-value-below t, walk-value.Post, close-union-reads.Asked, close-union-reads.Learnt, union-end-reads.Asked, union-end-reads.Learnt) (walk-value-at t) walk-value.Post
-walk-value-returns-4 t c = let s = c .before .before .before .before .before .before .before .before .before in let a = s .args in laws.v-ref (a .ty .now) (a .at) (a .bytes .now) (a .i) (a .depth) (a .p) (a .b) (a .asked) _ (c .before .if4 .taken) (c .walk-ref .ensures)
+walk-value-part-open-record-end : (t : ℕ) → walk-value-lts.Need-part-open-record-end (walk-value-claims t) (walk-value-at t) walk-value.Post
+walk-value-part-open-record-end t c = search needs
 
-walk-value-add-b1 : (t : ℕ) → walk-value-lts.Need-add-b1 (walk-int-reads.Asked, walk-int-reads.Learnt, walk-str-reads.Asked, walk-str-reads.Learnt, walk-bytes-reads.Asked, walk-bytes-reads.Learnt, walk-ref-reads.Asked, walk-ref-reads.Learnt, open-record-reads.Asked, open-record-reads.Learnt, walk-fields-below t, walk-fields.Post, open-union-reads.Asked, open-union-reads.Learnt, alternative-reads.Asked, alternative-reads.Learnt, walk-value-below t, walk-value.Post, close-union-reads.Asked, close-union-reads.Learnt, union-end-reads.Asked, union-end-reads.Learnt) (walk-value-at t) walk-value.Post
-walk-value-add-b1 t c = let s = c .before .before .before .before .before .before .before .before in let a = s .args in omega (arith, (s .pre .1 .1) .begun, (s .pre .1 .1) .place)
-
-walk-value-open-record-requires : (t : ℕ) → walk-value-lts.Need-open-record-requires (walk-int-reads.Asked, walk-int-reads.Learnt, walk-str-reads.Asked, walk-str-reads.Learnt, walk-bytes-reads.Asked, walk-bytes-reads.Learnt, walk-ref-reads.Asked, walk-ref-reads.Learnt, open-record-reads.Asked, open-record-reads.Learnt, walk-fields-below t, walk-fields.Post, open-union-reads.Asked, open-union-reads.Learnt, alternative-reads.Asked, alternative-reads.Learnt, walk-value-below t, walk-value.Post, close-union-reads.Asked, close-union-reads.Learnt, union-end-reads.Asked, union-end-reads.Learnt) (walk-value-at t) walk-value.Post
+walk-value-open-record-requires : (t : ℕ) → walk-value-lts.Need-open-record-requires (walk-value-claims t) (walk-value-at t) walk-value.Post
 walk-value-open-record-requires t c κs = search needs
 
-walk-value-enum-known-no : (t : ℕ) → walk-value-lts.Need-enum-known-no (walk-int-reads.Asked, walk-int-reads.Learnt, walk-str-reads.Asked, walk-str-reads.Learnt, walk-bytes-reads.Asked, walk-bytes-reads.Learnt, walk-ref-reads.Asked, walk-ref-reads.Learnt, open-record-reads.Asked, open-record-reads.Learnt, walk-fields-below t, walk-fields.Post, open-union-reads.Asked, open-union-reads.Learnt, alternative-reads.Asked, alternative-reads.Learnt, walk-value-below t, walk-value.Post, close-union-reads.Asked, close-union-reads.Learnt, union-end-reads.Asked, union-end-reads.Learnt) (walk-value-at t) walk-value.Post
+walk-value-enum-known-no : (t : ℕ) → walk-value-lts.Need-enum-known-no (walk-value-claims t) (walk-value-at t) walk-value.Post
 walk-value-enum-known-no t c = search needs
 
-walk-value-enum-known-next : (t : ℕ) → walk-value-lts.Need-enum-known-next (walk-int-reads.Asked, walk-int-reads.Learnt, walk-str-reads.Asked, walk-str-reads.Learnt, walk-bytes-reads.Asked, walk-bytes-reads.Learnt, walk-ref-reads.Asked, walk-ref-reads.Learnt, open-record-reads.Asked, open-record-reads.Learnt, walk-fields-below t, walk-fields.Post, open-union-reads.Asked, open-union-reads.Learnt, alternative-reads.Asked, alternative-reads.Learnt, walk-value-below t, walk-value.Post, close-union-reads.Asked, close-union-reads.Learnt, union-end-reads.Asked, union-end-reads.Learnt) (walk-value-at t) walk-value.Post
-walk-value-enum-known-next t c = search needs
+walk-value-bad-requires : (t : ℕ) → walk-value-lts.Need-bad-requires (walk-value-claims t) (walk-value-at t) walk-value.Post
+walk-value-bad-requires t c κs = search needs
 
-walk-value-add-walk-fields : (t : ℕ) → walk-value-lts.Need-add-walk-fields (walk-int-reads.Asked, walk-int-reads.Learnt, walk-str-reads.Asked, walk-str-reads.Learnt, walk-bytes-reads.Asked, walk-bytes-reads.Learnt, walk-ref-reads.Asked, walk-ref-reads.Learnt, open-record-reads.Asked, open-record-reads.Learnt, walk-fields-below t, walk-fields.Post, open-union-reads.Asked, open-union-reads.Learnt, alternative-reads.Asked, alternative-reads.Learnt, walk-value-below t, walk-value.Post, close-union-reads.Asked, close-union-reads.Learnt, union-end-reads.Asked, union-end-reads.Learnt) (walk-value-at t) walk-value.Post
-walk-value-add-walk-fields t c = let s = c .before .before .before .before .before .before .before .before .before .before .before .before .before in let a = s .args in omega (arith, laws.at-in (a .ty .now) (a .at) (s .pre .1 .0), s .good .0)
+walk-value-enum-known-used : (t : ℕ) → walk-value-lts.Need-enum-known-used (walk-value-claims t) (walk-value-at t) walk-value.Post
+walk-value-enum-known-used t c = search needs
 
-walk-value-add-walk-fields-2 : (t : ℕ) → walk-value-lts.Need-add-walk-fields-2 (walk-int-reads.Asked, walk-int-reads.Learnt, walk-str-reads.Asked, walk-str-reads.Learnt, walk-bytes-reads.Asked, walk-bytes-reads.Learnt, walk-ref-reads.Asked, walk-ref-reads.Learnt, open-record-reads.Asked, open-record-reads.Learnt, walk-fields-below t, walk-fields.Post, open-union-reads.Asked, open-union-reads.Learnt, alternative-reads.Asked, alternative-reads.Learnt, walk-value-below t, walk-value.Post, close-union-reads.Asked, close-union-reads.Learnt, union-end-reads.Asked, union-end-reads.Learnt) (walk-value-at t) walk-value.Post
-walk-value-add-walk-fields-2 t c = let s = c .before .before .before .before .before .before .before .before .before .before .before .before .before in let a = s .args in let f = laws.v-record-next (a .ty .now) (a .at) (a .bytes .now) (a .i) (a .depth) (a .p) (a .b) (a .asked) (s .pre .1 .1) (c .before .before .before .before .if5 .taken) (c .before .before .before .open-record .result) (c .before .before .before .open-record .ensures) _ (c .before .next .given .1) (s .pre .1 .0) in omega (arith, f .1)
+walk-value-add-walk-fields : (t : ℕ) → walk-value-lts.Need-add-walk-fields (walk-value-claims t) (walk-value-at t) walk-value.Post
+walk-value-add-walk-fields t c =
+    let at-if2 = c .before .before .before .before .before .before in
+    let s = at-if2 .before .before .before .before .before in
+    omega (arith, laws.second-in (s .pre .1 .0) (at-if2 .if2 .taken))
 
-walk-value-walk-fields-requires : (t : ℕ) → walk-value-lts.Need-walk-fields-requires (walk-int-reads.Asked, walk-int-reads.Learnt, walk-str-reads.Asked, walk-str-reads.Learnt, walk-bytes-reads.Asked, walk-bytes-reads.Learnt, walk-ref-reads.Asked, walk-ref-reads.Learnt, open-record-reads.Asked, open-record-reads.Learnt, walk-fields-below t, walk-fields.Post, open-union-reads.Asked, open-union-reads.Learnt, alternative-reads.Asked, alternative-reads.Learnt, walk-value-below t, walk-value.Post, close-union-reads.Asked, close-union-reads.Learnt, union-end-reads.Asked, union-end-reads.Learnt) (walk-value-at t) walk-value.Post
-walk-value-walk-fields-requires t c κs = let s = c .before .before .before .before .before .before .before .before .before .before .before .before .before in let a = s .args in let f = laws.v-record-next (a .ty .now) (a .at) (a .bytes .now) (a .i) (a .depth) (a .p) (a .b) (a .asked) (s .pre .1 .1) (c .before .before .before .before .if5 .taken) (c .before .before .before .open-record .result) (c .before .before .before .open-record .ensures) _ (c .before .next .given .1) (s .pre .1 .0) in (omega (arith, s .pre .0, f .0), (f .2, f .3))
+walk-value-add-walk-fields-2 : (t : ℕ) → walk-value-lts.Need-add-walk-fields-2 (walk-value-claims t) (walk-value-at t) walk-value.Post
+walk-value-add-walk-fields-2 t c = omega (arith, laws.v-record-next (in-record t (c .before)) .1)
 
-walk-value-returns-5 : (t : ℕ) → walk-value-lts.Need-returns-5 (walk-int-reads.Asked, walk-int-reads.Learnt, walk-str-reads.Asked, walk-str-reads.Learnt, walk-bytes-reads.Asked, walk-bytes-reads.Learnt, walk-ref-reads.Asked, walk-ref-reads.Learnt, open-record-reads.Asked, open-record-reads.Learnt, walk-fields-below t, walk-fields.Post, open-union-reads.Asked, open-union-reads.Learnt, alternative-reads.Asked, alternative-reads.Learnt, walk-value-below t, walk-value.Post, close-union-reads.Asked, close-union-reads.Learnt, union-end-reads.Asked, union-end-reads.Learnt) (walk-value-at t) walk-value.Post
-walk-value-returns-5 t c = let s = c .before .before .before .before .before .before .before .before .before .before .before .before .before in let a = s .args in laws.v-record-bad (a .ty .now) (a .at) (a .bytes .now) (a .i) (a .depth) (a .p) (a .b) (a .asked) (s .pre .1 .1) (c .before .before .before .before .if5 .taken) (c .before .before .before .open-record .result) (c .before .before .before .open-record .ensures) _ _ (c .before .no .given .1)
+walk-value-add-walk-fields-3 : (t : ℕ) → walk-value-lts.Need-add-walk-fields-3 (walk-value-claims t) (walk-value-at t) walk-value.Post
+walk-value-add-walk-fields-3 t c = omega (arith, laws.v-record-next (in-record t (c .before)) .0)
 
-walk-value-returns-6 : (t : ℕ) → walk-value-lts.Need-returns-6 (walk-int-reads.Asked, walk-int-reads.Learnt, walk-str-reads.Asked, walk-str-reads.Learnt, walk-bytes-reads.Asked, walk-bytes-reads.Learnt, walk-ref-reads.Asked, walk-ref-reads.Learnt, open-record-reads.Asked, open-record-reads.Learnt, walk-fields-below t, walk-fields.Post, open-union-reads.Asked, open-union-reads.Learnt, alternative-reads.Asked, alternative-reads.Learnt, walk-value-below t, walk-value.Post, close-union-reads.Asked, close-union-reads.Learnt, union-end-reads.Asked, union-end-reads.Learnt) (walk-value-at t) walk-value.Post
-walk-value-returns-6 t c = let s = c .before .before .before .before .before .before .before .before .before .before .before .before .before .before in let a = s .args in laws.v-record (a .ty .now) (a .at) (a .bytes .now) (a .i) (a .depth) (a .p) (a .b) (a .asked) (s .pre .1 .1) (c .before .before .before .before .before .if5 .taken) (c .before .before .before .before .open-record .result) (c .before .before .before .before .open-record .ensures) _ (c .before .before .next .given .1) _ (c .walk-fields .ensures)
+walk-value-walk-fields-requires : (t : ℕ) → walk-value-lts.Need-walk-fields-requires (walk-value-claims t) (walk-value-at t) walk-value.Post
+walk-value-walk-fields-requires t c κs =
+    let at-used = c .before in
+    let at-if2 = at-used .before .before .before .before .before in
+    let s = at-if2 .before .before .before .before .before in
+    let n = laws.v-record-next (in-record t at-used) in
+    (omega (arith, s .pre .0, laws.second-in (s .pre .1 .0) (at-if2 .if2 .taken)), (n .2, n .1))
 
-walk-value-open-union-requires : (t : ℕ) → walk-value-lts.Need-open-union-requires (walk-int-reads.Asked, walk-int-reads.Learnt, walk-str-reads.Asked, walk-str-reads.Learnt, walk-bytes-reads.Asked, walk-bytes-reads.Learnt, walk-ref-reads.Asked, walk-ref-reads.Learnt, open-record-reads.Asked, open-record-reads.Learnt, walk-fields-below t, walk-fields.Post, open-union-reads.Asked, open-union-reads.Learnt, alternative-reads.Asked, alternative-reads.Learnt, walk-value-below t, walk-value.Post, close-union-reads.Asked, close-union-reads.Learnt, union-end-reads.Asked, union-end-reads.Learnt) (walk-value-at t) walk-value.Post
+walk-value-more-requires : (t : ℕ) → walk-value-lts.Need-more-requires (walk-value-claims t) (walk-value-at t) walk-value.Post
+walk-value-more-requires t c κs = (omega arith, omega arith, laws.v-record-small (in-record t (c .before .before)) (c .walk-fields .ensures))
+
+walk-value-returns-2 : (t : ℕ) → walk-value-lts.Need-returns-2 (walk-value-claims t) (walk-value-at t) walk-value.Post
+walk-value-returns-2 t c =
+    let at-no = c .before .before in
+    rw (c .bad .ensures) (laws.v-record-bad (opened-record t (at-no .before .before)) (at-no .no .given .1))
+
+walk-value-returns-3 : (t : ℕ) → walk-value-lts.Need-returns-3 (walk-value-claims t) (walk-value-at t) walk-value.Post
+walk-value-returns-3 t c =
+    let at-walk-fields = c .before in
+    rw (c .more .ensures) (laws.v-record (in-record t (at-walk-fields .before .before)) (at-walk-fields .walk-fields .ensures))
+
+walk-value-sub-open-union : (t : ℕ) → walk-value-lts.Need-sub-open-union (walk-value-claims t) (walk-value-at t) walk-value.Post
+walk-value-sub-open-union t c = search needs
+
+walk-value-part-open-union-start : (t : ℕ) → walk-value-lts.Need-part-open-union-start (walk-value-claims t) (walk-value-at t) walk-value.Post
+walk-value-part-open-union-start t c = search needs
+
+walk-value-part-open-union-end : (t : ℕ) → walk-value-lts.Need-part-open-union-end (walk-value-claims t) (walk-value-at t) walk-value.Post
+walk-value-part-open-union-end t c = search needs
+
+walk-value-open-union-requires : (t : ℕ) → walk-value-lts.Need-open-union-requires (walk-value-claims t) (walk-value-at t) walk-value.Post
 walk-value-open-union-requires t c κs = search needs
 
-walk-value-enum-known-no-2 : (t : ℕ) → walk-value-lts.Need-enum-known-no-2 (walk-int-reads.Asked, walk-int-reads.Learnt, walk-str-reads.Asked, walk-str-reads.Learnt, walk-bytes-reads.Asked, walk-bytes-reads.Learnt, walk-ref-reads.Asked, walk-ref-reads.Learnt, open-record-reads.Asked, open-record-reads.Learnt, walk-fields-below t, walk-fields.Post, open-union-reads.Asked, open-union-reads.Learnt, alternative-reads.Asked, alternative-reads.Learnt, walk-value-below t, walk-value.Post, close-union-reads.Asked, close-union-reads.Learnt, union-end-reads.Asked, union-end-reads.Learnt) (walk-value-at t) walk-value.Post
+walk-value-enum-known-no-2 : (t : ℕ) → walk-value-lts.Need-enum-known-no-2 (walk-value-claims t) (walk-value-at t) walk-value.Post
 walk-value-enum-known-no-2 t c = search needs
 
-walk-value-enum-known-tag : (t : ℕ) → walk-value-lts.Need-enum-known-tag (walk-int-reads.Asked, walk-int-reads.Learnt, walk-str-reads.Asked, walk-str-reads.Learnt, walk-bytes-reads.Asked, walk-bytes-reads.Learnt, walk-ref-reads.Asked, walk-ref-reads.Learnt, open-record-reads.Asked, open-record-reads.Learnt, walk-fields-below t, walk-fields.Post, open-union-reads.Asked, open-union-reads.Learnt, alternative-reads.Asked, alternative-reads.Learnt, walk-value-below t, walk-value.Post, close-union-reads.Asked, close-union-reads.Learnt, union-end-reads.Asked, union-end-reads.Learnt) (walk-value-at t) walk-value.Post
+walk-value-bad-requires-2 : (t : ℕ) → walk-value-lts.Need-bad-requires-2 (walk-value-claims t) (walk-value-at t) walk-value.Post
+walk-value-bad-requires-2 t c κs = search needs
+
+walk-value-enum-known-tag : (t : ℕ) → walk-value-lts.Need-enum-known-tag (walk-value-claims t) (walk-value-at t) walk-value.Post
 walk-value-enum-known-tag t c = search needs
 
-walk-value-alternative-requires : (t : ℕ) → walk-value-lts.Need-alternative-requires (walk-int-reads.Asked, walk-int-reads.Learnt, walk-str-reads.Asked, walk-str-reads.Learnt, walk-bytes-reads.Asked, walk-bytes-reads.Learnt, walk-ref-reads.Asked, walk-ref-reads.Learnt, open-record-reads.Asked, open-record-reads.Learnt, walk-fields-below t, walk-fields.Post, open-union-reads.Asked, open-union-reads.Learnt, alternative-reads.Asked, alternative-reads.Learnt, walk-value-below t, walk-value.Post, close-union-reads.Asked, close-union-reads.Learnt, union-end-reads.Asked, union-end-reads.Learnt) (walk-value-at t) walk-value.Post
+walk-value-alternative-requires : (t : ℕ) → walk-value-lts.Need-alternative-requires (walk-value-claims t) (walk-value-at t) walk-value.Post
 walk-value-alternative-requires t c κs = search needs
 
-walk-value-returns-7 : (t : ℕ) → walk-value-lts.Need-returns-7 (walk-int-reads.Asked, walk-int-reads.Learnt, walk-str-reads.Asked, walk-str-reads.Learnt, walk-bytes-reads.Asked, walk-bytes-reads.Learnt, walk-ref-reads.Asked, walk-ref-reads.Learnt, open-record-reads.Asked, open-record-reads.Learnt, walk-fields-below t, walk-fields.Post, open-union-reads.Asked, open-union-reads.Learnt, alternative-reads.Asked, alternative-reads.Learnt, walk-value-below t, walk-value.Post, close-union-reads.Asked, close-union-reads.Learnt, union-end-reads.Asked, union-end-reads.Learnt) (walk-value-at t) walk-value.Post
-walk-value-returns-7 t c = let s = c .before .before .before .before .before .before .before .before .before .before .before .before .before .before .before in let a = s .args in laws.v-missing (a .ty .now) (a .at) (a .bytes .now) (a .i) (a .depth) (a .p) (a .b) (a .asked) (s .pre .1 .1) (c .before .before .before .before .before .before .before .before .before .before .before .if1 .left) (c .before .before .before .before .before .before .before .before .before .before .if2 .left) (c .before .before .before .before .before .before .before .before .before .if3 .left) (c .before .before .before .before .before .before .before .if4 .left) (c .before .before .before .before .before .before .if5 .left) (c .before .before .before .before .before .open-union .result) (c .before .before .before .before .before .open-union .ensures) _ _ (c .before .before .before .tag .given .1) _ _ (c .before .alternative .ensures) (c .if6 .taken)
+walk-value-bad-requires-3 : (t : ℕ) → walk-value-lts.Need-bad-requires-3 (walk-value-claims t) (walk-value-at t) walk-value.Post
+walk-value-bad-requires-3 t c κs = search needs
 
-walk-value-add-walk-value : (t : ℕ) → walk-value-lts.Need-add-walk-value (walk-int-reads.Asked, walk-int-reads.Learnt, walk-str-reads.Asked, walk-str-reads.Learnt, walk-bytes-reads.Asked, walk-bytes-reads.Learnt, walk-ref-reads.Asked, walk-ref-reads.Learnt, open-record-reads.Asked, open-record-reads.Learnt, walk-fields-below t, walk-fields.Post, open-union-reads.Asked, open-union-reads.Learnt, alternative-reads.Asked, alternative-reads.Learnt, walk-value-below t, walk-value.Post, close-union-reads.Asked, close-union-reads.Learnt, union-end-reads.Asked, union-end-reads.Learnt) (walk-value-at t) walk-value.Post
-walk-value-add-walk-value t c = let s = c .before .before .before .before .before .before .before .before .before .before .before .before .before .before .before in let a = s .args in let f = laws.v-union-next (a .ty .now) (a .at) (a .bytes .now) (a .i) (a .depth) (a .p) (a .b) (a .asked) (s .pre .1 .1) (c .before .before .before .before .before .before .before .before .before .before .before .if1 .left) (c .before .before .before .before .before .before .before .before .before .before .if2 .left) (c .before .before .before .before .before .before .before .before .before .if3 .left) (c .before .before .before .before .before .before .before .if4 .left) (c .before .before .before .before .before .before .if5 .left) (c .before .before .before .before .before .open-union .result) (c .before .before .before .before .before .open-union .ensures) _ _ (c .before .before .before .tag .given .1) _ _ (c .before .alternative .ensures) (c .if6 .left) (s .pre .1 .0) in omega (arith, f .2)
+walk-value-returns-4 : (t : ℕ) → walk-value-lts.Need-returns-4 (walk-value-claims t) (walk-value-at t) walk-value.Post
+walk-value-returns-4 t c =
+    let at-if3 = c .before in
+    rw (c .bad3 .ensures) (laws.v-missing (in-union t (at-if3 .before)) (at-if3 .if3 .taken))
 
-walk-value-walk-value-requires : (t : ℕ) → walk-value-lts.Need-walk-value-requires (walk-int-reads.Asked, walk-int-reads.Learnt, walk-str-reads.Asked, walk-str-reads.Learnt, walk-bytes-reads.Asked, walk-bytes-reads.Learnt, walk-ref-reads.Asked, walk-ref-reads.Learnt, open-record-reads.Asked, open-record-reads.Learnt, walk-fields-below t, walk-fields.Post, open-union-reads.Asked, open-union-reads.Learnt, alternative-reads.Asked, alternative-reads.Learnt, walk-value-below t, walk-value.Post, close-union-reads.Asked, close-union-reads.Learnt, union-end-reads.Asked, union-end-reads.Learnt) (walk-value-at t) walk-value.Post
-walk-value-walk-value-requires t c κs = let s = c .before .before .before .before .before .before .before .before .before .before .before .before .before .before .before in let a = s .args in let f = laws.v-union-next (a .ty .now) (a .at) (a .bytes .now) (a .i) (a .depth) (a .p) (a .b) (a .asked) (s .pre .1 .1) (c .before .before .before .before .before .before .before .before .before .before .before .if1 .left) (c .before .before .before .before .before .before .before .before .before .before .if2 .left) (c .before .before .before .before .before .before .before .before .before .if3 .left) (c .before .before .before .before .before .before .before .if4 .left) (c .before .before .before .before .before .before .if5 .left) (c .before .before .before .before .before .open-union .result) (c .before .before .before .before .before .open-union .ensures) _ _ (c .before .before .before .tag .given .1) _ _ (c .before .alternative .ensures) (c .if6 .left) (s .pre .1 .0) in (omega (arith, s .pre .0, f .0, f .1), (f .3, f .4))
+walk-value-add-walk-value : (t : ℕ) → walk-value-lts.Need-add-walk-value (walk-value-claims t) (walk-value-at t) walk-value.Post
+walk-value-add-walk-value t c = omega (arith, laws.v-union-next (in-union t (c .before)) (c .if3 .left) .2)
 
-walk-value-enum-known-no-3 : (t : ℕ) → walk-value-lts.Need-enum-known-no-3 (walk-int-reads.Asked, walk-int-reads.Learnt, walk-str-reads.Asked, walk-str-reads.Learnt, walk-bytes-reads.Asked, walk-bytes-reads.Learnt, walk-ref-reads.Asked, walk-ref-reads.Learnt, open-record-reads.Asked, open-record-reads.Learnt, walk-fields-below t, walk-fields.Post, open-union-reads.Asked, open-union-reads.Learnt, alternative-reads.Asked, alternative-reads.Learnt, walk-value-below t, walk-value.Post, close-union-reads.Asked, close-union-reads.Learnt, union-end-reads.Asked, union-end-reads.Learnt) (walk-value-at t) walk-value.Post
-walk-value-enum-known-no-3 t c = search needs
+walk-value-add-walk-value-2 : (t : ℕ) → walk-value-lts.Need-add-walk-value-2 (walk-value-claims t) (walk-value-at t) walk-value.Post
+walk-value-add-walk-value-2 t c = omega (arith, laws.v-union-next (in-union t (c .before)) (c .if3 .left) .1)
 
-walk-value-enum-known-a2 : (t : ℕ) → walk-value-lts.Need-enum-known-a2 (walk-int-reads.Asked, walk-int-reads.Learnt, walk-str-reads.Asked, walk-str-reads.Learnt, walk-bytes-reads.Asked, walk-bytes-reads.Learnt, walk-ref-reads.Asked, walk-ref-reads.Learnt, open-record-reads.Asked, open-record-reads.Learnt, walk-fields-below t, walk-fields.Post, open-union-reads.Asked, open-union-reads.Learnt, alternative-reads.Asked, alternative-reads.Learnt, walk-value-below t, walk-value.Post, close-union-reads.Asked, close-union-reads.Learnt, union-end-reads.Asked, union-end-reads.Learnt) (walk-value-at t) walk-value.Post
-walk-value-enum-known-a2 t c = search needs
+walk-value-walk-value-requires : (t : ℕ) → walk-value-lts.Need-walk-value-requires (walk-value-claims t) (walk-value-at t) walk-value.Post
+walk-value-walk-value-requires t c κs =
+    let at-alternative = c .before in
+    let s = at-alternative .before .before .before .before .before .before .before .before .before .before .before in
+    let n = laws.v-union-next (in-union t at-alternative) (c .if3 .left) in
+    (omega (arith, s .pre .0, laws.at-in (s .pre .1 .0), n .0), (n .3, n .2))
 
-walk-value-close-union-requires : (t : ℕ) → walk-value-lts.Need-close-union-requires (walk-int-reads.Asked, walk-int-reads.Learnt, walk-str-reads.Asked, walk-str-reads.Learnt, walk-bytes-reads.Asked, walk-bytes-reads.Learnt, walk-ref-reads.Asked, walk-ref-reads.Learnt, open-record-reads.Asked, open-record-reads.Learnt, walk-fields-below t, walk-fields.Post, open-union-reads.Asked, open-union-reads.Learnt, alternative-reads.Asked, alternative-reads.Learnt, walk-value-below t, walk-value.Post, close-union-reads.Asked, close-union-reads.Learnt, union-end-reads.Asked, union-end-reads.Learnt) (walk-value-at t) walk-value.Post
-walk-value-close-union-requires t c κs = search needs
+walk-value-close-union-requires : (t : ℕ) → walk-value-lts.Need-close-union-requires (walk-value-claims t) (walk-value-at t) walk-value.Post
+walk-value-close-union-requires t c κs =
+    let at-if3 = c .before in
+    laws.v-in-key (in-union t (at-if3 .before)) (at-if3 .if3 .left) (c .walk-value .ensures)
 
-walk-value-enum-known-no-4 : (t : ℕ) → walk-value-lts.Need-enum-known-no-4 (walk-int-reads.Asked, walk-int-reads.Learnt, walk-str-reads.Asked, walk-str-reads.Learnt, walk-bytes-reads.Asked, walk-bytes-reads.Learnt, walk-ref-reads.Asked, walk-ref-reads.Learnt, open-record-reads.Asked, open-record-reads.Learnt, walk-fields-below t, walk-fields.Post, open-union-reads.Asked, open-union-reads.Learnt, alternative-reads.Asked, alternative-reads.Learnt, walk-value-below t, walk-value.Post, close-union-reads.Asked, close-union-reads.Learnt, union-end-reads.Asked, union-end-reads.Learnt) (walk-value-at t) walk-value.Post
-walk-value-enum-known-no-4 t c = search needs
+walk-value-more-requires-2 : (t : ℕ) → walk-value-lts.Need-more-requires-2 (walk-value-claims t) (walk-value-at t) walk-value.Post
+walk-value-more-requires-2 t c κs =
+    let at-walk-value = c .before in
+    let at-if3 = at-walk-value .before in
+    (omega arith, omega arith, laws.v-union-small (in-union t (at-if3 .before)) (at-if3 .if3 .left) (at-walk-value .walk-value .ensures) _ (c .close-union .ensures))
 
-walk-value-enum-known-i3 : (t : ℕ) → walk-value-lts.Need-enum-known-i3 (walk-int-reads.Asked, walk-int-reads.Learnt, walk-str-reads.Asked, walk-str-reads.Learnt, walk-bytes-reads.Asked, walk-bytes-reads.Learnt, walk-ref-reads.Asked, walk-ref-reads.Learnt, open-record-reads.Asked, open-record-reads.Learnt, walk-fields-below t, walk-fields.Post, open-union-reads.Asked, open-union-reads.Learnt, alternative-reads.Asked, alternative-reads.Learnt, walk-value-below t, walk-value.Post, close-union-reads.Asked, close-union-reads.Learnt, union-end-reads.Asked, union-end-reads.Learnt) (walk-value-at t) walk-value.Post
-walk-value-enum-known-i3 t c = search needs
+walk-value-returns-5 : (t : ℕ) → walk-value-lts.Need-returns-5 (walk-value-claims t) (walk-value-at t) walk-value.Post
+walk-value-returns-5 t c =
+    let at-no2 = c .before .before in
+    rw (c .bad2 .ensures) (laws.v-union-bad (opened-union t (at-no2 .before .before)) (at-no2 .no2 .given .1))
 
-walk-value-union-end-requires : (t : ℕ) → walk-value-lts.Need-union-end-requires (walk-int-reads.Asked, walk-int-reads.Learnt, walk-str-reads.Asked, walk-str-reads.Learnt, walk-bytes-reads.Asked, walk-bytes-reads.Learnt, walk-ref-reads.Asked, walk-ref-reads.Learnt, open-record-reads.Asked, open-record-reads.Learnt, walk-fields-below t, walk-fields.Post, open-union-reads.Asked, open-union-reads.Learnt, alternative-reads.Asked, alternative-reads.Learnt, walk-value-below t, walk-value.Post, close-union-reads.Asked, close-union-reads.Learnt, union-end-reads.Asked, union-end-reads.Learnt) (walk-value-at t) walk-value.Post
-walk-value-union-end-requires t c κs = search needs
-
-walk-value-returns-8 : (t : ℕ) → walk-value-lts.Need-returns-8 (walk-int-reads.Asked, walk-int-reads.Learnt, walk-str-reads.Asked, walk-str-reads.Learnt, walk-bytes-reads.Asked, walk-bytes-reads.Learnt, walk-ref-reads.Asked, walk-ref-reads.Learnt, open-record-reads.Asked, open-record-reads.Learnt, walk-fields-below t, walk-fields.Post, open-union-reads.Asked, open-union-reads.Learnt, alternative-reads.Asked, alternative-reads.Learnt, walk-value-below t, walk-value.Post, close-union-reads.Asked, close-union-reads.Learnt, union-end-reads.Asked, union-end-reads.Learnt) (walk-value-at t) walk-value.Post
-walk-value-returns-8 t c = let s = c .before .before .before .before .before .before .before .before .before .before .before .before .before in let a = s .args in laws.v-union-bad (a .ty .now) (a .at) (a .bytes .now) (a .i) (a .depth) (a .p) (a .b) (a .asked) (s .pre .1 .1) (c .before .before .before .before .before .before .before .before .before .if1 .left) (c .before .before .before .before .before .before .before .before .if2 .left) (c .before .before .before .before .before .before .before .if3 .left) (c .before .before .before .before .before .if4 .left) (c .before .before .before .before .if5 .left) (c .before .before .before .open-union .result) (c .before .before .before .open-union .ensures) _ _ (c .before .no2 .given .1)
-
-walk-value-returns-9 : (t : ℕ) → walk-value-lts.Need-returns-9 (walk-int-reads.Asked, walk-int-reads.Learnt, walk-str-reads.Asked, walk-str-reads.Learnt, walk-bytes-reads.Asked, walk-bytes-reads.Learnt, walk-ref-reads.Asked, walk-ref-reads.Learnt, open-record-reads.Asked, open-record-reads.Learnt, walk-fields-below t, walk-fields.Post, open-union-reads.Asked, open-union-reads.Learnt, alternative-reads.Asked, alternative-reads.Learnt, walk-value-below t, walk-value.Post, close-union-reads.Asked, close-union-reads.Learnt, union-end-reads.Asked, union-end-reads.Learnt) (walk-value-at t) walk-value.Post
-walk-value-returns-9 t c = let s = c .before .before .before .before .before .before .before .before .before .before .before .before .before .before .before .before .before .before .before in let a = s .args in laws.v-inner-bad (a .ty .now) (a .at) (a .bytes .now) (a .i) (a .depth) (a .p) (a .b) (a .asked) (s .pre .1 .1) (c .before .before .before .before .before .before .before .before .before .before .before .before .before .before .before .if1 .left) (c .before .before .before .before .before .before .before .before .before .before .before .before .before .before .if2 .left) (c .before .before .before .before .before .before .before .before .before .before .before .before .before .if3 .left) (c .before .before .before .before .before .before .before .before .before .before .before .if4 .left) (c .before .before .before .before .before .before .before .before .before .before .if5 .left) (c .before .before .before .before .before .before .before .before .before .open-union .result) (c .before .before .before .before .before .before .before .before .before .open-union .ensures) _ _ (c .before .before .before .before .before .before .before .tag .given .1) _ _ (c .before .before .before .before .before .alternative .ensures) (c .before .before .before .before .if6 .left) (c .before .before .before .walk-value .result) (c .before .before .before .walk-value .ensures) _ _ _ (c .before .no3 .given .1)
-
-walk-value-returns-10 : (t : ℕ) → walk-value-lts.Need-returns-10 (walk-int-reads.Asked, walk-int-reads.Learnt, walk-str-reads.Asked, walk-str-reads.Learnt, walk-bytes-reads.Asked, walk-bytes-reads.Learnt, walk-ref-reads.Asked, walk-ref-reads.Learnt, open-record-reads.Asked, open-record-reads.Learnt, walk-fields-below t, walk-fields.Post, open-union-reads.Asked, open-union-reads.Learnt, alternative-reads.Asked, alternative-reads.Learnt, walk-value-below t, walk-value.Post, close-union-reads.Asked, close-union-reads.Learnt, union-end-reads.Asked, union-end-reads.Learnt) (walk-value-at t) walk-value.Post
-walk-value-returns-10 t c = let s = c .before .before .before .before .before .before .before .before .before .before .before .before .before .before .before .before .before .before .before .before .before .before .before in let a = s .args in laws.v-close-bad (a .ty .now) (a .at) (a .bytes .now) (a .i) (a .depth) (a .p) (a .b) (a .asked) (s .pre .1 .1) (c .before .before .before .before .before .before .before .before .before .before .before .before .before .before .before .before .before .before .before .if1 .left) (c .before .before .before .before .before .before .before .before .before .before .before .before .before .before .before .before .before .before .if2 .left) (c .before .before .before .before .before .before .before .before .before .before .before .before .before .before .before .before .before .if3 .left) (c .before .before .before .before .before .before .before .before .before .before .before .before .before .before .before .if4 .left) (c .before .before .before .before .before .before .before .before .before .before .before .before .before .before .if5 .left) (c .before .before .before .before .before .before .before .before .before .before .before .before .before .open-union .result) (c .before .before .before .before .before .before .before .before .before .before .before .before .before .open-union .ensures) _ _ (c .before .before .before .before .before .before .before .before .before .before .before .tag .given .1) _ _ (c .before .before .before .before .before .before .before .before .before .alternative .ensures) (c .before .before .before .before .before .before .before .before .if6 .left) (c .before .before .before .before .before .before .before .walk-value .result) (c .before .before .before .before .before .before .before .walk-value .ensures) _ _ _ _ (c .before .before .before .before .before .a2 .given .1) (c .before .before .before .close-union .result) (c .before .before .before .close-union .ensures) _ _ (c .before .no4 .given .1)
-
-walk-value-returns-11 : (t : ℕ) → walk-value-lts.Need-returns-11 (walk-int-reads.Asked, walk-int-reads.Learnt, walk-str-reads.Asked, walk-str-reads.Learnt, walk-bytes-reads.Asked, walk-bytes-reads.Learnt, walk-ref-reads.Asked, walk-ref-reads.Learnt, open-record-reads.Asked, open-record-reads.Learnt, walk-fields-below t, walk-fields.Post, open-union-reads.Asked, open-union-reads.Learnt, alternative-reads.Asked, alternative-reads.Learnt, walk-value-below t, walk-value.Post, close-union-reads.Asked, close-union-reads.Learnt, union-end-reads.Asked, union-end-reads.Learnt) (walk-value-at t) walk-value.Post
-walk-value-returns-11 t c = let s = c .before .before .before .before .before .before .before .before .before .before .before .before .before .before .before .before .before .before .before .before .before .before .before .before in let a = s .args in laws.v-union (a .ty .now) (a .at) (a .bytes .now) (a .i) (a .depth) (a .p) (a .b) (a .asked) (s .pre .1 .1) (c .before .before .before .before .before .before .before .before .before .before .before .before .before .before .before .before .before .before .before .before .if1 .left) (c .before .before .before .before .before .before .before .before .before .before .before .before .before .before .before .before .before .before .before .if2 .left) (c .before .before .before .before .before .before .before .before .before .before .before .before .before .before .before .before .before .before .if3 .left) (c .before .before .before .before .before .before .before .before .before .before .before .before .before .before .before .before .if4 .left) (c .before .before .before .before .before .before .before .before .before .before .before .before .before .before .before .if5 .left) (c .before .before .before .before .before .before .before .before .before .before .before .before .before .before .open-union .result) (c .before .before .before .before .before .before .before .before .before .before .before .before .before .before .open-union .ensures) _ _ (c .before .before .before .before .before .before .before .before .before .before .before .before .tag .given .1) _ _ (c .before .before .before .before .before .before .before .before .before .before .alternative .ensures) (c .before .before .before .before .before .before .before .before .before .if6 .left) (c .before .before .before .before .before .before .before .before .walk-value .result) (c .before .before .before .before .before .before .before .before .walk-value .ensures) _ _ _ _ (c .before .before .before .before .before .before .a2 .given .1) (c .before .before .before .before .close-union .result) (c .before .before .before .before .close-union .ensures) _ _ (c .before .before .i3 .given .1) (c .union-end .ensures)
+walk-value-returns-6 : (t : ℕ) → walk-value-lts.Need-returns-6 (walk-value-claims t) (walk-value-at t) walk-value.Post
+walk-value-returns-6 t c =
+    let at-close-union = c .before in
+    let at-walk-value = at-close-union .before in
+    let at-if3 = at-walk-value .before in
+    rw (c .more2 .ensures) (laws.v-union (in-union t (at-if3 .before)) (at-if3 .if3 .left) (at-walk-value .walk-value .ensures) _ (at-close-union .close-union .ensures))
 
 pub +walk-fields+walk-value-spec : {M : Type 1} → statement M
-+walk-fields+walk-value-spec = close μ-walk-fields μ-walk-value (λ t. walk-fields-lts.spec (ends-here-reads.Asked, ends-here-reads.Learnt, asks-reads.Asked, asks-reads.Learnt, walk-value-below t, walk-value.Post)
++walk-fields+walk-value-spec = close μ-walk-fields μ-walk-value (λ t. walk-fields-lts.spec (walk-fields-claims t)
     (walk-fields-at t)
     walk-fields.Post
     walk-fields-Inv-loop
     walk-fields-μ-loop
     (walk-fields-loop-holds t)
+    (walk-fields-field-refusal-requires t)
+    (walk-fields-bad-requires t)
     (walk-fields-returns t)
-    (walk-fields-ends-here-requires t)
-    (walk-fields-returns-2 t)
     (walk-fields-asks-requires t)
     (walk-fields-walk-value-requires t)
     (walk-fields-enum-known-no t)
-    (walk-fields-returns-3 t)
-    (walk-fields-enum-known-a2 t)
+    (walk-fields-add-bad t)
+    (walk-fields-bad-requires-2 t)
+    (walk-fields-returns-2 t)
+    (walk-fields-enum-known-behind t)
+    (walk-fields-add-w t)
+    (walk-fields-add-p t)
+    (walk-fields-add-b t)
     (walk-fields-sub-left t)
     (walk-fields-loop-less t)
     (walk-fields-loop-again t)
-    (walk-fields-returns-4 t)
-    (walk-fields-ends-here-requires-2 t)
-    (walk-fields-add-end t)
-    (walk-fields-returns-5 t)
-    (walk-fields-returns-6 t))
-    λ t. walk-value-lts.spec (
-      walk-int-reads.Asked,
-      walk-int-reads.Learnt,
-      walk-str-reads.Asked,
-      walk-str-reads.Learnt,
-      walk-bytes-reads.Asked,
-      walk-bytes-reads.Learnt,
-      walk-ref-reads.Asked,
-      walk-ref-reads.Learnt,
-      open-record-reads.Asked,
-      open-record-reads.Learnt,
-      walk-fields-below t,
-      walk-fields.Post,
-      open-union-reads.Asked,
-      open-union-reads.Learnt,
-      alternative-reads.Asked,
-      alternative-reads.Learnt,
-      walk-value-below t,
-      walk-value.Post,
-      close-union-reads.Asked,
-      close-union-reads.Learnt,
-      union-end-reads.Asked,
-      union-end-reads.Learnt,
-    )
+    (walk-fields-fields-end-requires t)
+    (walk-fields-enum-known-no-2 t)
+    (walk-fields-bad-requires-3 t)
+    (walk-fields-enum-known-next t)
+    (walk-fields-returns-3 t)
+    (walk-fields-returns-4 t))
+    λ t. walk-value-lts.spec (walk-value-claims t)
     (walk-value-at t)
     walk-value.Post
     (walk-value-mul-kind t)
     (walk-value-shared-slice-read-kind t)
-    (walk-value-add-j t)
-    (walk-value-walk-int-requires t)
+    (walk-value-sub-walk-scalar t)
+    (walk-value-part-walk-scalar-start t)
+    (walk-value-part-walk-scalar-end t)
+    (walk-value-walk-scalar-requires t)
     (walk-value-returns t)
-    (walk-value-walk-str-requires t)
-    (walk-value-returns-2 t)
-    (walk-value-walk-bytes-requires t)
-    (walk-value-returns-3 t)
+    (walk-value-add-n t)
     (walk-value-mul-n t)
     (walk-value-shared-slice-read-n t)
-    (walk-value-add-walk-ref t)
-    (walk-value-walk-ref-requires t)
-    (walk-value-returns-4 t)
-    (walk-value-add-b1 t)
+    (walk-value-sub-open-record t)
+    (walk-value-part-open-record-start t)
+    (walk-value-part-open-record-end t)
     (walk-value-open-record-requires t)
     (walk-value-enum-known-no t)
-    (walk-value-enum-known-next t)
+    (walk-value-bad-requires t)
+    (walk-value-enum-known-used t)
     (walk-value-add-walk-fields t)
     (walk-value-add-walk-fields-2 t)
+    (walk-value-add-walk-fields-3 t)
     (walk-value-walk-fields-requires t)
-    (walk-value-returns-5 t)
-    (walk-value-returns-6 t)
+    (walk-value-more-requires t)
+    (walk-value-returns-2 t)
+    (walk-value-returns-3 t)
+    (walk-value-sub-open-union t)
+    (walk-value-part-open-union-start t)
+    (walk-value-part-open-union-end t)
     (walk-value-open-union-requires t)
     (walk-value-enum-known-no-2 t)
+    (walk-value-bad-requires-2 t)
     (walk-value-enum-known-tag t)
     (walk-value-alternative-requires t)
-    (walk-value-returns-7 t)
+    (walk-value-bad-requires-3 t)
+    (walk-value-returns-4 t)
     (walk-value-add-walk-value t)
+    (walk-value-add-walk-value-2 t)
     (walk-value-walk-value-requires t)
-    (walk-value-enum-known-no-3 t)
-    (walk-value-enum-known-a2 t)
     (walk-value-close-union-requires t)
-    (walk-value-enum-known-no-4 t)
-    (walk-value-enum-known-i3 t)
-    (walk-value-union-end-requires t)
-    (walk-value-returns-8 t)
-    (walk-value-returns-9 t)
-    (walk-value-returns-10 t)
-    (walk-value-returns-11 t)
+    (walk-value-more-requires-2 t)
+    (walk-value-returns-5 t)
+    (walk-value-returns-6 t)

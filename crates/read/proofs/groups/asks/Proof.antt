@@ -1,7 +1,8 @@
+-- Two cases of the number of fields left: where more than one is, the answer is true.
 use borrow.Author.Needs.{needs}
 use native.Mathlib.Omega.{arith}
-use Rattle.read.proofs.values.asks.Statement.{statement}
-use Rattle.read.proofs.values.asks.Tie as tie
+use Rattle.read.proofs.groups.asks.Statement.{statement}
+use Rattle.read.proofs.groups.asks.Tie as tie
 
 returns : tie.Need-returns
 returns c = search needs

@@ -1,9 +1,10 @@
+-- Where the place is not asked for, nothing is promised of it.
+use mathlib.Core.Path.{_≡_}
 use borrow.Author.Needs.{needs}
 use Prim.Native.Nat.{ℕ}
-use mathlib.Core.Path.{_≡_}
 use native.Mathlib.Omega.{arith}
-use Rattle.read.proofs.values.union_end.Statement.{statement}
-use Rattle.read.proofs.values.union_end.Tie as tie
+use Rattle.read.proofs.groups.union_end.Statement.{statement}
+use Rattle.read.proofs.groups.union_end.Tie as tie
 
 skip-alternatives-requires : tie.Need-skip-alternatives-requires
 skip-alternatives-requires c κs = search needs
