@@ -1,298 +1,299 @@
 -- Laws of the walk over fields and groups: one for each way out of it.
-use mathlib.Core.Path.{_≡_, refl, sym, ap, subst, _∙_}
+use mathlib.Core.Path.{_≡_, refl, sym, ap, _∙_}
 use mathlib.Core.Bool.{Bool, true, false, not}
 use mathlib.Core.List.{List, [], _∷_, _++_, append-assoc, append-nil}
 use Prim.Native.Nat.{ℕ, _+_, _-_, _≤_, _<_}
 use native.Mathlib.Nat.{add-zero}
 use native.Mathlib.Omega.{arith}
+use lib.Dec.{ltb}
 use lib.ListN.{length, drop, getD, length-append, length-drop}
-use Rattle.format.specs.Tree.{Val, Vals}
+use borrow.Author.Tests.{lt-ltb, eqb-true, ne-eqb}
+use Rattle.format.specs.Answer.{if, Answer, andThen}
+use Rattle.format.specs.Tree.{Ty, Tys, Val, Vals, numberIn, fieldsIn, payloadIn}
 use Rattle.format.specs.Sheet.{valCount, valWords, valsWords, valPool, valsPool}
 use Rattle.format.specs.Scalar.{uintBytes}
-use Rattle.format.specs.Encode.{valBytes, valsBytes}
+use Rattle.format.specs.Encode.{valBytes, valsBytes, fits, fitsAll, fine}
 use Rattle.format.specs.Fields.{put}
-use Rattle.format.specs.Read.{startsFF}
+use Rattle.format.specs.Read.{startsFF, endsHere}
+use Rattle.format.proofs.Sound.{Sound, AllSound}
+use Rattle.format.proofs.SheetPlaces.{all-words}
+use Rattle.format.proofs.ValuePlaces.{word-is}
+use Rattle.format.proofs.Tests.{Test, holds, fails, eqb-test, eqb-no}
+use Rattle.format.proofs.KindLaws.{built}
+use Rattle.format.proofs.FitLaws.{of-value, clash, fields-fit, payload-fits, both-fit}
+use Rattle.format.proofs.MarkLaws.{markKind}
+use Rattle.format.proofs.OrderLaws.{marked}
+use Rattle.format.proofs.RoundLaws.{not-null, starts-vals, ends}
 use Rattle.blocks.proofs.Put.{put-none, length-put}
-use Rattle.fill.proofs.PlaceLaws.{head-at, int-mark, val-at, fields-start, put-before, put-then}
+use Rattle.fill.proofs.PlaceLaws.{head-at, kind-at, put-before, put-then}
+use Rattle.fill.proofs.LeafLaws.{some-kind}
 use Rattle.fill.specs.declared.Filled.{Filled}
-use Rattle.fill.specs.Fill.{NonNull, NonNulls, Plain, AsMark, Opens, NumberFilled, Done, One, LeafFilled, taken, Ends, Row, Passed, GroupFilled, FieldsFilled}
+use Rattle.fill.specs.Fill.{Lent, lent, standing, opens, fieldsEnd, Behind, Ready, Onward, NumberFilled, Done, One, Row, GroupFilled, LeafFilled, FieldsFilled, behindLeaf}
 
--- a value has two words at least
-two-words : (v : Val) → NonNull v → 2 ≤ length (valWords v)
-unfolding valWords
-two-words Val.Null n = absurd n
-two-words (Val.Int x) n = omega arith
-two-words (Val.Str s) n = omega arith
-two-words (Val.Bytes s) n = omega arith
-two-words (Val.Ref x) n = omega arith
-two-words (Val.Record vs) n = omega arith
-two-words (Val.Union d v) n = omega arith
+-- ---- where fields end
+
+-- by what is left of the key
+module _ (depth : ℕ) where
+  pub end-past : (l : List ℕ) → length l ≤ 0 → true ≡ fieldsEnd depth l
+  unfolding fieldsEnd
+  end-past [] h = refl
+  end-past (b ∷ bs) h = absurd (omega arith)
+
+  pub end-outside : (l : List ℕ) → 0 < length l → depth ≡ 0 → false ≡ fieldsEnd depth l
+  unfolding fieldsEnd
+  end-outside [] h z = absurd (omega arith)
+  end-outside (b ∷ bs) h z = rw z
+
+  pub end-inside : (l : List ℕ) → 0 < length l → (depth ≡ 0 → ⊥) → endsHere l ≡ fieldsEnd depth l
+  unfolding fieldsEnd
+  end-inside [] h z = absurd (omega arith)
+  end-inside (b ∷ bs) h z = rw (lt-ltb 0 depth (omega arith))
+
+-- where they do not, the key goes on
+pub goes-on : (bytes : List ℕ) (j depth : ℕ) → false ≡ fieldsEnd depth (drop j bytes) → j < length bytes
+unfolding fieldsEnd
+goes-on bytes j depth h = omega (arith, length-drop j bytes, some (drop j bytes) h)
+  where
+    some : (l : List ℕ) → false ≡ fieldsEnd depth l → 0 < length l
+    some [] e = let z : _≡_ {A = ℕ} 0 1 = cc in absurd (omega arith)
+    some (b ∷ bs) e = omega arith
+
+-- a value that fits a type does not begin with an end
+begins : (t : Ty) (depth : ℕ) (v : Val) (rest : List ℕ) → fits t depth v ≡ fine → Sound v → fieldsEnd depth (valBytes depth v ++ rest) ≡ false
+unfolding fieldsEnd endsHere
+begins t depth v rest fit so =
+    let m = marked depth v so in
+    rw (m .bytes, eqb-no (m .mark) 0 (omega (arith, m .least, not-null t depth v fit))) (go (ltb 0 depth))
+  where
+    go : (b : Bool) → if b false false ≡ false
+    go true = refl
+    go false = refl
+
+-- what begins with an end does not begin with FF
+end-starts : (depth : ℕ) (rest : List ℕ) → fieldsEnd depth rest ≡ true → startsFF rest ≡ false
+unfolding fieldsEnd endsHere startsFF
+end-starts depth [] e = refl
+end-starts depth (b ∷ bs) e = go (ltb 0 depth) (eqb-test b 0) e
+  where
+    go : (c : Bool) {d : Bool} → Test (b ≡ 0) (b ≡ 0 → ⊥) d → if c (if d (not (startsFF bs)) false) false ≡ true → startsFF (b ∷ bs) ≡ false
+    go c (holds q) e = eqb-no b 0xFF (λ z. omega arith)
+    go true (fails q) e = let z : _≡_ {A = ℕ} 0 1 = cc in absurd (omega arith)
+    go false (fails q) e = let z : _≡_ {A = ℕ} 0 1 = cc in absurd (omega arith)
+
+-- a group's end is one
+group-end : (depth : ℕ) (rest : List ℕ) → startsFF rest ≡ false → fieldsEnd (depth + 1) (0 ∷ rest) ≡ true
+unfolding fieldsEnd
+group-end depth rest f = rw (lt-ltb 0 (depth + 1) (omega arith)) (ends rest f)
+
+-- a value that fits a type has two words at least
+two-words : (t : Ty) (depth : ℕ) (v : Val) → fits t depth v ≡ fine → 2 ≤ length (valWords v)
+two-words t depth v fit =
+    omega (arith, word-is (valWords v) (valPool v) 0 0 _ _ v (record { words = all-words _ _ refl; pool = all-words _ _ refl }) (some-kind t depth v fit) .0)
 
 -- ---- fields one after another
 
--- none stands at a 00 or at the end
-pub row-none : (bytes win pin : List ℕ) (r : Filled) → (r .next < length bytes → getD bytes (r .next) 0 ≡ 0) → Row bytes (r .next) win (r .words) pin (r .pool) (r .count) r win pin
-unfolding valsBytes valsWords valsPool valCount
-row-none bytes win pin r h = record { row = λ depth vs rest n en e lw lp. go vs depth rest n e }
-  where
-    go : (vs : Vals) (depth : ℕ) (rest : List ℕ) → NonNulls vs → drop (r .next) bytes ≡ valsBytes depth vs ++ rest
-        → Done bytes (r .next) (r .words) (r .pool) rest win (r .words) (valsWords vs) win pin (r .pool) (valsPool vs) pin × (r .count ≡ r .count + valCount vs)
-    go Vals.NoVal depth rest n e = (
-      record { left = e; at-words = sym (add-zero (r .words)); at-pool = sym (add-zero (r .pool)); written = sym (put-none win (r .words)); pooled = sym (put-none pin (r .pool)) },
-      sym (add-zero (r .count)),
-    )
-    go (Vals.AddVal v vs) depth rest n e =
-        let u = val-at bytes (r .next) depth v (valsBytes depth vs ++ rest) (n .0) (e ∙ append-assoc (valBytes depth v) (valsBytes depth vs) rest) in
-        absurd (omega (arith, h (u .0), u .1))
+abbrev These : (bytes : List ℕ) (s : Filled) (depth : ℕ) (a : Lent) (r : Filled) (b : Lent) → Tys → Vals → Type 0
+These bytes s depth a r b ts vs = (rest : List ℕ) → fitsAll ts depth vs ≡ fine → AllSound vs → fieldsEnd depth rest ≡ true → drop (s .next) bytes ≡ valsBytes depth vs ++ rest
+    → s .words + length (valsWords vs) ≤ length (a .words) → s .pool + length (valsPool vs) ≤ length (a .pool)
+    → Done bytes rest s a (valsWords vs) (valsPool vs) r b × (r .count ≡ s .count + valCount vs)
 
-module _ (bytes : List ℕ) (i : ℕ) (win : List ℕ) (w : ℕ) (pin : List ℕ) (p n : ℕ) (h : i < length bytes) (z : getD bytes i 0 ≡ 0 → ⊥) where
-  -- some field stands here
-  some : {X : Type 0} (rest : List ℕ) → Ends rest → drop i bytes ≡ rest → X
-  some [] en e = absurd (omega (arith, ap length e, length-drop i bytes))
-  some (b ∷ rest) en e = absurd (z (head-at bytes i b rest e .1 ∙ en))
+-- none stands at an end
+pub row-none : {bytes : List ℕ} {s : Filled} {depth : ℕ} {a : Lent} → true ≡ fieldsEnd depth (drop (s .next) bytes) → Row bytes s depth a s a
+unfolding fits valsBytes valsWords valsPool valCount
+row-none {bytes} {s} {depth} {a} h = record { row = go }
+  where
+    go : (ts : Tys) (vs : Vals) → These bytes s depth a s a ts vs
+    go ts Vals.NoVal rest fit so en e lw lp = (
+      record { left = e; at-words = sym (add-zero (s .words)); at-pool = sym (add-zero (s .pool)); written = sym (put-none (a .words) (s .words)); pooled = sym (put-none (a .pool) (s .pool)) },
+      sym (add-zero (s .count)),
+    )
+    go Tys.NoTy (Vals.AddVal v vs) rest fit so en e lw lp = clash fit
+    go (Tys.AddTy t ts) (Vals.AddVal v vs) rest fit so en e lw lp =
+        let q = both-fit (fits t depth v) (fitsAll ts depth vs) fit in
+        let b = begins t depth v (valsBytes depth vs ++ rest) (q .0) (so .0) in
+        let z : _≡_ {A = ℕ} 0 1 = cc (append-assoc (valBytes depth v) (valsBytes depth vs) rest) in
+        absurd (omega arith)
+
+module _ {bytes : List ℕ} {s : Filled} {depth : ℕ} {a : Lent} {r : Filled} {b : Lent} (h : false ≡ fieldsEnd depth (drop (s .next) bytes)) where
+  -- a field stands here, so one at least does
+  row-some : ((t : Ty) (ts : Tys) (v : Val) (vs : Vals) → These bytes s depth a r b (Tys.AddTy t ts) (Vals.AddVal v vs)) → Row bytes s depth a r b
+  unfolding fits valsBytes
+  row-some f = record { row = go }
+    where
+      go : (ts : Tys) (vs : Vals) → These bytes s depth a r b ts vs
+      go ts Vals.NoVal rest fit so en e lw lp = let z : _≡_ {A = ℕ} 0 1 = cc in absurd (omega arith)
+      go Tys.NoTy (Vals.AddVal v vs) rest fit so en e lw lp = clash fit
+      go (Tys.AddTy t ts) (Vals.AddVal v vs) rest fit so en e lw lp = f t ts v vs rest fit so en e lw lp
 
   -- and has no room
-  pub row-short : length win - w < 2 → (e : Filled) (we pe : List ℕ) → Row bytes i win w pin p n e we pe
-  unfolding valsBytes valsWords
-  row-short s e we pe = record { row = λ depth vs rest nn en d lw lp. go vs depth rest nn en d lw }
-    where
-      go : (vs : Vals) (depth : ℕ) (rest : List ℕ) → NonNulls vs → Ends rest → drop i bytes ≡ valsBytes depth vs ++ rest → w + length (valsWords vs) ≤ length win
-          → Done bytes (e .next) (e .words) (e .pool) rest win w (valsWords vs) we pin p (valsPool vs) pe × (e .count ≡ n + valCount vs)
-      go Vals.NoVal depth rest nn en d lw = some rest en d
-      go (Vals.AddVal v vs) depth rest nn en d lw = absurd (omega (arith, two-words v (nn .0), length-append (valWords v) (valsWords vs)))
+  pub row-short : length (a .words) - s .words < 2 → Row bytes s depth a r b
+  unfolding fits valsWords
+  row-short l = row-some (λ t ts v vs rest fit so en e lw lp.
+      absurd (omega (arith, two-words t depth v (both-fit (fits t depth v) (fitsAll ts depth vs) fit .0), length-append (valWords v) (valsWords vs))))
 
-  module _ (next words pool : ℕ) (wm pm : List ℕ) (kw : length wm ≡ length win) (kp : length pm ≡ length pin) (here : One bytes i win w pin p next words pool wm pm)
-      (e : Filled) (we pe : List ℕ) (behind : Row bytes next wm words pm pool (n + 1) e we pe) where
-    more : (vs : Vals) (depth : ℕ) (rest : List ℕ) → NonNulls vs → Ends rest → drop i bytes ≡ valsBytes depth vs ++ rest → w + length (valsWords vs) ≤ length win → p + length (valsPool vs) ≤ length pin
-        → Done bytes (e .next) (e .words) (e .pool) rest win w (valsWords vs) we pin p (valsPool vs) pe × (e .count ≡ n + valCount vs)
-    unfolding valsBytes valsWords valsPool valCount
-    more Vals.NoVal depth rest nn en d lw lp = some rest en d
-    more (Vals.AddVal v vs) depth rest nn en d lw lp =
-        let a = length-append (valWords v) (valsWords vs) in
-        let b = length-append (valPool v) (valsPool vs) in
-        let f = here .one depth v (valsBytes depth vs ++ rest) (nn .0) (fields-start depth vs rest (nn .1) en) (d ∙ append-assoc (valBytes depth v) (valsBytes depth vs) rest) (omega arith) (omega arith) in
-        let g = behind .row depth vs rest (nn .1) en (f .left) (omega (arith, f .at-words)) (omega (arith, f .at-pool)) in (
-          record {
-            left = g .0 .left;
-            at-words = omega (arith, f .at-words, g .0 .at-words);
-            at-pool = omega (arith, f .at-pool, g .0 .at-pool);
-            written = put-then win wm we w words (valWords v) (valsWords vs) (omega arith) (f .at-words) (f .written) (g .0 .written);
-            pooled = put-then pin pm pe p pool (valPool v) (valsPool vs) (omega arith) (f .at-pool) (f .pooled) (g .0 .pooled);
-          },
-          omega (arith, g .1),
-        )
+  -- or is filled, with those behind it
+  pub row-more : {m : Filled} {d : Lent} → GroupFilled bytes (standing (s .next) (s .words) (s .pool) 0) depth a m d → Row bytes (standing (m .next) (m .words) (m .pool) (s .count + 1)) depth d r b → Row bytes s depth a r b
+  unfolding fits valsBytes valsWords valsPool valCount
+  row-more {m} {d} here rest-of = row-some (λ t ts v vs rest fit so en e lw lp.
+      let q = both-fit (fits t depth v) (fitsAll ts depth vs) fit in
+      let nw = length-append (valWords v) (valsWords vs) in
+      let np = length-append (valPool v) (valsPool vs) in
+      let o = here .onward in
+      let f = here .says .one t v (valsBytes depth vs ++ rest) (q .0) (so .0) (starts-vals depth vs (so .1) rest (end-starts depth rest en)) (e ∙ append-assoc (valBytes depth v) (valsBytes depth vs) rest)
+      (omega arith) (omega arith) in
+      let g = rest-of .row ts vs rest (q .1) (so .1) en (f .left) (omega (arith, f .at-words, o .kept-words)) (omega (arith, f .at-pool, o .kept-pool)) in (
+        record {
+          left = g .0 .left;
+          at-words = omega (arith, f .at-words, g .0 .at-words);
+          at-pool = omega (arith, f .at-pool, g .0 .at-pool);
+          written = put-then (a .words) (s .words) (valWords v) (valsWords vs) (omega arith) (f .at-words) (f .written) (g .0 .written);
+          pooled = put-then (a .pool) (s .pool) (valPool v) (valsPool vs) (omega arith) (f .at-pool) (f .pooled) (g .0 .pooled);
+        },
+        omega (arith, g .1),
+      ))
 
-    pub row-more : Row bytes i win w pin p n e we pe
-    row-more = record { row = λ depth vs rest nn en d lw lp. more vs depth rest nn en d lw lp }
+-- a value that is no group, at this depth as at any
+pub leaf-filled : {bytes : List ℕ} {s : Filled} {a : Lent} {r : ℕ} {b : Lent} (depth : ℕ) → LeafFilled bytes s a r b → GroupFilled bytes s depth a (behindLeaf bytes s r (b .words)) b
+leaf-filled depth f = record { onward = f .onward; says = f .says depth }
 
--- ---- what a mark says
+-- ---- the loop: what the fields that are left fill, they fill of all
 
-pub plain : (m : ℕ) (r : Bool) → AsMark m r → not r ≡ false → Plain m
-plain m true h e = h
-plain m false h e = absurd (let z : _≡_ {A = ℕ} 0 1 = cc in omega arith)
+pub record Passing (bytes : List ℕ) (s₀ : Filled) (depth : ℕ) (a₀ : Lent) (s : Filled) (a : Lent) : Type 0 where
+  pub onward : Onward bytes (s₀ .next) a₀ s a
+  pub so-far : (r : Filled) (b : Lent) → Row bytes s depth a r b → Row bytes s₀ depth a₀ r b
 
-pub not-plain : (m : ℕ) (r : Bool) → AsMark m r → not r ≡ true → AsMark m false
-not-plain m false h e = h
-not-plain m true h e = absurd (let z : _≡_ {A = ℕ} 0 1 = cc in omega arith)
+module _ {bytes : List ℕ} {s₀ : Filled} {depth : ℕ} {a₀ : Lent} where
+  pub passing-start : s₀ .count ≤ s₀ .next → Ready bytes s₀ depth a₀ → Passing bytes s₀ depth a₀ s₀ a₀
+  passing-start c q =
+      record { onward = record { on = omega arith; inside = q .place; word-in = q .word-in; pool-in = q .pool-in; few = c; kept-words = refl; kept-pool = refl }; so-far = λ r b row. row }
 
--- ---- the loops
+  module _ {s : Filled} {a : Lent} (i : Passing bytes s₀ depth a₀ s a) where
+    -- the next field may stand here
+    pub passing-ready : depth ≤ s₀ .next + 256 → Ready bytes (standing (s .next) (s .words) (s .pool) 0) depth a
+    passing-ready h =
+        let o = i .onward in
+        record { place = o .inside; word-in = omega (arith, o .word-in, o .kept-words); pool-in = omega (arith, o .pool-in, o .kept-pool); deep = omega (arith, o .on) }
 
--- over fields, from the places i, w, p with n passed, to j, w1, p1 with k passed
-pub record Passing (bytes : List ℕ) (i : ℕ) (win : List ℕ) (w : ℕ) (pin : List ℕ) (p n j : ℕ) (wout : List ℕ) (w1 : ℕ) (pout : List ℕ) (p1 k : ℕ) : Type 0 where
-  pub on : i ≤ j
-  pub inside : j ≤ length bytes
-  pub word-in : w1 ≤ length win
-  pub pool-in : p1 ≤ length pin
-  pub few : k ≤ j
-  pub kept-words : length wout ≡ length win
-  pub kept-pool : length pout ≡ length pin
-  pub so-far : (e : Filled) (we pe : List ℕ) → Row bytes j wout w1 pout p1 k e we pe → Row bytes i win w pin p n e we pe
+    -- it is filled
+    pub passing-on : {m : Filled} {b : Lent} {ws ps : List ℕ} {j w p : ℕ} → false ≡ fieldsEnd depth (drop (s .next) bytes) → GroupFilled bytes (standing (s .next) (s .words) (s .pool) 0) depth a m b
+        → ws ≡ b .words → ps ≡ b .pool → j ≡ m .next → w ≡ m .words → p ≡ m .pool → Passing bytes s₀ depth a₀ (standing j w p (s .count + 1)) (lent ws ps)
+    passing-on h f e₁ e₂ e₃ e₄ e₅ =
+        let o = i .onward in
+        let q = f .onward in
+        rw (e₁, e₂, e₃, e₄, e₅)
+        (record {
+          onward = record {
+            on = omega (arith, o .on, q .on);
+            inside = q .inside;
+            word-in = omega (arith, q .word-in, o .kept-words);
+            pool-in = omega (arith, q .pool-in, o .kept-pool);
+            few = omega (arith, o .few, q .on);
+            kept-words = q .kept-words ∙ o .kept-words;
+            kept-pool = q .kept-pool ∙ o .kept-pool;
+          };
+          so-far = λ r c row. i .so-far r c (row-more h f row);
+        })
 
-pub passing-start : (bytes : List ℕ) (i : ℕ) (win : List ℕ) (w : ℕ) (pin : List ℕ) (p n : ℕ) → i ≤ length bytes → w ≤ length win → p ≤ length pin → n ≤ i → Passing bytes i win w pin p n i win w pin p n
-passing-start bytes i win w pin p n a b c d = record { on = omega arith; inside = a; word-in = b; pool-in = c; few = d; kept-words = refl; kept-pool = refl; so-far = λ e we pe h. h }
+    -- none is left, or there is no room for another
+    pub passing-end : true ≡ fieldsEnd depth (drop (s .next) bytes) → FieldsFilled bytes s₀ depth a₀ s a
+    passing-end h = record { onward = i .onward; says = i .so-far s a (row-none h) }
 
-module _ (bytes : List ℕ) (i : ℕ) (win : List ℕ) (w : ℕ) (pin : List ℕ) (p n j : ℕ) (wout : List ℕ) (w1 : ℕ) (pout : List ℕ) (p1 k : ℕ) (v : Passing bytes i win w pin p n j wout w1 pout p1 k) where
-  pub passed-stop : (j < length bytes → AsMark (getD bytes j 0) false) → Passed bytes i win w pin p n (record { next = j; words = w1; pool = p1; count = k }) wout pout
-  passed-stop m = record {
-    onward = record { on = v .on; inside = v .inside; word-in = v .word-in; pool-in = v .pool-in; few = v .few; kept-words = v .kept-words; kept-pool = v .kept-pool };
-    stop = m;
-    so-far = v .so-far;
-  }
-
-  module _ (h : j < length bytes) (m : Plain (getD bytes j 0)) where
-    pub passed-short : length wout - w1 < 2 → Passed bytes i win w pin p n (record { next = length bytes; words = w1; pool = p1; count = k }) wout pout
-    passed-short s = record {
-      onward = record { on = omega (arith, v .on); inside = omega arith; word-in = v .word-in; pool-in = v .pool-in; few = omega (arith, v .few); kept-words = v .kept-words; kept-pool = v .kept-pool };
-      stop = λ l. absurd (omega arith);
-      so-far = λ e we pe r. v .so-far e we pe (row-short bytes j wout w1 pout p1 k h (m .no-end) s e we pe);
-    }
-
-    pub passing-leaf : (wm pm : List ℕ) (r x : ℕ) → 2 ≤ length wout - w1 → LeafFilled bytes j wout w1 pout p1 r wm pm → x ≡ taken (getD bytes j 0) (getD wm (w1 + 1) 0)
-        → Passing bytes i win w pin p n r wm (w1 + 2) pm (p1 + x) (k + 1)
-    passing-leaf wm pm r x room f q = record {
-      on = omega (arith, v .on, f .on);
-      inside = f .inside;
-      word-in = omega (arith, v .kept-words);
-      pool-in = omega (arith, f .pool-in, v .kept-pool);
-      few = omega (arith, v .few, f .on);
-      kept-words = f .kept-words ∙ v .kept-words;
-      kept-pool = f .kept-pool ∙ v .kept-pool;
-      so-far = λ e we pe g. v .so-far e we pe
-          (row-more bytes j wout w1 pout p1 k h (m .no-end) r (w1 + 2) (p1 + taken (getD bytes j 0) (getD wm (w1 + 1) 0)) wm pm (f .kept-words) (f .kept-pool) (f .says) e we pe
-          (subst (λ (y : ℕ). Row bytes r wm (w1 + 2) pm (p1 + y) (k + 1) e we pe) q g));
-    }
+    pub passing-short : false ≡ fieldsEnd depth (drop (s .next) bytes) → length (a .words) - s .words < 2 → FieldsFilled bytes s₀ depth a₀ s a
+    passing-short h l = record { onward = i .onward; says = i .so-far s a (row-short h l) }
 
 -- ---- groups
 
-module _ (bytes : List ℕ) (i : ℕ) where
-  -- what stands at the mark of a record
-  record-at : (P : Val → Type 0) → getD bytes i 0 ≡ 0x22 → ((vs : Vals) → P (Val.Record vs)) → (depth : ℕ) (v : Val) (rest : List ℕ) → NonNull v → drop i bytes ≡ valBytes depth v ++ rest → P v
-  unfolding valBytes
-  record-at P m f depth Val.Null rest n e = absurd n
-  record-at P m f depth (Val.Int x) rest n e = let k = int-mark x n in let u = head-at bytes i (k .mark) (k .body ++ rest) (e ∙ ap (λ (t : List ℕ). t ++ rest) (k .bytes)) in absurd (omega (arith, u .1, k .least))
-  record-at P m f depth (Val.Str s) rest n e = let u = head-at bytes i 0x21 _ e in absurd (omega (arith, u .1))
-  record-at P m f depth (Val.Bytes s) rest n e = let u = head-at bytes i 0x53 _ e in absurd (omega (arith, u .1))
-  record-at P m f depth (Val.Ref x) rest n e = let u = head-at bytes i 0x51 _ e in absurd (omega (arith, u .1))
-  record-at P m f depth (Val.Record vs) rest n e = f vs
-  record-at P m f depth (Val.Union d v) rest n e = let u = head-at bytes i 0x52 _ e in absurd (omega (arith, u .1))
+-- the value v stands here
+abbrev This : (bytes : List ℕ) (s : Filled) (depth : ℕ) (a : Lent) (r : Filled) (b : Lent) → Val → Type 0
+This bytes s depth a r b v = (t : Ty) (rest : List ℕ) → fits t depth v ≡ fine → Sound v → startsFF rest ≡ false → drop (s .next) bytes ≡ valBytes depth v ++ rest
+    → s .words + length (valWords v) ≤ length (a .words) → s .pool + length (valPool v) ≤ length (a .pool) → Done bytes rest s a (valWords v) (valPool v) r b
 
-  -- and of a union
-  union-at : (P : Val → Type 0) → getD bytes i 0 ≡ 0x52 → ((d : ℕ) (v : Val) → P (Val.Union d v)) → (depth : ℕ) (v : Val) (rest : List ℕ) → NonNull v → drop i bytes ≡ valBytes depth v ++ rest → P v
-  unfolding valBytes
-  union-at P m f depth Val.Null rest n e = absurd n
-  union-at P m f depth (Val.Int x) rest n e = let k = int-mark x n in let u = head-at bytes i (k .mark) (k .body ++ rest) (e ∙ ap (λ (t : List ℕ). t ++ rest) (k .bytes)) in absurd (omega (arith, u .1, k .most))
-  union-at P m f depth (Val.Str s) rest n e = let u = head-at bytes i 0x21 _ e in absurd (omega (arith, u .1))
-  union-at P m f depth (Val.Bytes s) rest n e = let u = head-at bytes i 0x53 _ e in absurd (omega (arith, u .1))
-  union-at P m f depth (Val.Ref x) rest n e = let u = head-at bytes i 0x51 _ e in absurd (omega (arith, u .1))
-  union-at P m f depth (Val.Record vs) rest n e = let u = head-at bytes i 0x22 _ e in absurd (omega (arith, u .1))
-  union-at P m f depth (Val.Union d v) rest n e = f d v
+by-kind : {bytes : List ℕ} {s : Filled} {depth : ℕ} {a : Lent} {r : Filled} {b : Lent} (k : ℕ) → markKind (getD bytes (s .next) 0) ≡ k → ((v : Val) → This bytes s depth a r b (built k v)) → One bytes s depth a r b
+by-kind {bytes} {s} {depth} {a} {r} {b} k e f =
+    record { one = λ t v rest fit so st d lw lp. of-value (This bytes s depth a r b) k v (kind-at bytes (s .next) depth v rest so d ∙ e) (f v) t rest fit so st d lw lp }
 
-module _ (bytes : List ℕ) (i : ℕ) (win : List ℕ) (w : ℕ) (pin : List ℕ) (p next words pool : ℕ) (wout pout : List ℕ) where
-  abbrev This : Val → Type 0
-  This v = (depth : ℕ) (rest : List ℕ) → NonNull v → startsFF rest ≡ false → drop i bytes ≡ valBytes depth v ++ rest → w + length (valWords v) ≤ length win → p + length (valPool v) ≤ length pin
-      → Done bytes next words pool rest win w (valWords v) wout pin p (valPool v) pout
+-- a group's mark is a record's or a union's
+pub union-mark : (m : ℕ) → opens m ≡ true → (m ≡ 0x22 → ⊥) → m ≡ 0x52
+union-mark m h n = eqb-true m 0x52 (rw (ne-eqb m 0x22 n) at h)
 
-  pub one-short : length win - w < 2 → One bytes i win w pin p next words pool wout pout
-  one-short s = record { one = λ depth v rest n f e lw lp. absurd (omega (arith, two-words v n)) }
+module _ {bytes : List ℕ} {s : Filled} {depth : ℕ} {a : Lent} (h : s .next < length bytes) (room : s .words + 2 ≤ length (a .words)) where
+  -- a union without its tag
+  pub no-tag : s .pool ≤ length (a .pool) → getD bytes (s .next) 0 ≡ 0x52 → length bytes ≤ s .next + 1 → GroupFilled bytes s depth a (standing (s .next + 1) (s .words) (s .pool) 0) a
+  unfolding built valBytes uintBytes markKind
+  no-tag pl m l =
+      record {
+        onward = record { on = omega arith; inside = omega arith; word-in = omega arith; pool-in = pl; few = omega arith; kept-words = refl; kept-pool = refl };
+        says = by-kind 6 (ap markKind m) (λ v t rest fit so st e lw lp. absurd (omega (arith, head-at bytes (s .next + 1) (head-at bytes (s .next) e .2) .0)));
+      }
 
-  pub no-tag : getD bytes i 0 ≡ 0x52 → length bytes ≤ i + 1 → One bytes i win w pin p next words pool wout pout
-  unfolding valBytes uintBytes
-  no-tag m l = record { one = λ depth v rest n f e lw lp. union-at bytes i This m go depth v rest n e depth rest n f e lw lp }
-    where
-      go : (d : ℕ) (v : Val) → This (Val.Union d v)
-      go d v depth rest n f e lw lp = let u = head-at bytes i 0x52 _ e in let t = head-at bytes (i + 1) _ _ (u .2) in absurd (omega (arith, t .0))
+  module _ {r : Filled} {next : ℕ} {wout pout : List ℕ} (back : Behind bytes (r .next) next) where
+    -- a record: its fields one deeper, then its two words before theirs
+    pub record-filled : {w1 : List ℕ} → getD bytes (s .next) 0 ≡ 0x22 → FieldsFilled bytes (standing (s .next + 1) (s .words + 2) (s .pool) 0) (depth + 1) a r (lent w1 pout) → wout ≡ put w1 (s .words) (5 ∷ r .count ∷ [])
+        → GroupFilled bytes s depth a (standing next (r .words) (r .pool) 0) (lent wout pout)
+    unfolding built valBytes valWords valPool markKind
+    record-filled {w1} m f e1 =
+        let o = f .onward in
+        record {
+          onward = record {
+            on = omega (arith, o .on, back .on);
+            inside = back .inside;
+            word-in = o .word-in;
+            pool-in = o .pool-in;
+            few = omega arith;
+            kept-words = ap length e1 ∙ length-put w1 (s .words) (5 ∷ r .count ∷ []) (omega (arith, o .kept-words)) ∙ o .kept-words;
+            kept-pool = o .kept-pool;
+          };
+          says = by-kind 5 (ap markKind m) (λ v t rest fit so st e lw lp.
+              let vs = fieldsIn v in
+              let g = fields-fit t depth vs fit in
+              let u = head-at bytes (s .next) e in
+              let d = f .says .row (g .0) vs (0 ∷ rest) (g .1) so (group-end depth rest st) (u .2 ∙ append-assoc (valsBytes (depth + 1) vs) (0 ∷ []) rest) (omega arith) lp in
+              let z = head-at bytes (r .next) (d .0 .left) in
+              let c : r .count ≡ valCount vs = omega (arith, d .1) in
+              record {
+                left = ap (λ (k : ℕ). drop k bytes) (back .right (z .0)) ∙ z .2;
+                at-words = omega (arith, d .0 .at-words);
+                at-pool = d .0 .at-pool;
+                written = e1 ∙ ap (λ (k : ℕ). put w1 (s .words) (5 ∷ k ∷ [])) c ∙ ap (λ (l : List ℕ). put l (s .words) (5 ∷ valCount vs ∷ [])) (d .0 .written)
+                    ∙ put-before (a .words) (s .words) (5 ∷ valCount vs ∷ []) (valsWords vs) (omega arith);
+                pooled = d .0 .pooled;
+              });
+        }
 
-  module _ (r : Filled) (room : 2 ≤ length win - w) (far : r .next < length bytes → next ≡ r .next + 1) (ew : words ≡ r .words) (ep : pool ≡ r .pool) where
-    pub a-record : getD bytes i 0 ≡ 0x22 → (w1 : List ℕ) → Row bytes (i + 1) win (w + 2) pin p 0 r w1 pout → wout ≡ put w1 w (5 ∷ r .count ∷ []) → One bytes i win w pin p next words pool wout pout
-    unfolding valBytes valWords valPool
-    a-record m w1 row e1 = record { one = λ depth v rest n f e lw lp. record-at bytes i This m go depth v rest n e depth rest n f e lw lp }
-      where
-        go : (vs : Vals) → This (Val.Record vs)
-        go vs depth rest n f e lw lp =
-            let u = head-at bytes i 0x22 ((valsBytes (depth + 1) vs ++ 0 ∷ []) ++ rest) e in
-            let d = row .row (depth + 1) vs (0 ∷ rest) n refl (u .2 ∙ append-assoc (valsBytes (depth + 1) vs) (0 ∷ []) rest) (omega arith) lp in
-            let z = head-at bytes (r .next) 0 rest (d .0 .left) in
-            let c : r .count ≡ valCount vs = omega (arith, d .1) in
-            record {
-              left = ap (λ (k : ℕ). drop k bytes) (far (z .0)) ∙ z .2;
-              at-words = omega (arith, d .0 .at-words);
-              at-pool = ep ∙ d .0 .at-pool;
-              written = e1 ∙ ap (λ (k : ℕ). put w1 w (5 ∷ k ∷ [])) c ∙ ap (λ (l : List ℕ). put l w (5 ∷ valCount vs ∷ [])) (d .0 .written) ∙ put-before win w (5 ∷ valCount vs ∷ []) (valsWords vs) (omega arith);
-              pooled = d .0 .pooled;
-            }
-
-    pub a-union : getD bytes i 0 ≡ 0x52 → (t : ℕ) (w1 : List ℕ) → NumberFilled uintBytes 6 bytes (i + 1) win w t w1 → Row bytes t w1 (w + 2) pin p 0 r wout pout → One bytes i win w pin p next words pool wout pout
-    unfolding valBytes valsBytes valWords valsWords valPool valsPool
-    a-union m t w1 tag row = record { one = λ depth v rest n f e lw lp. union-at bytes i This m go depth v rest n e depth rest n f e lw lp }
-      where
-        go : (d : ℕ) (v : Val) → This (Val.Union d v)
-        go d v depth rest n f e lw lp =
-            let inside : List ℕ = valBytes (depth + 1) v in
-            let u = head-at bytes i 0x52 ((uintBytes d ++ (valBytes (depth + 1) v ++ 0 ∷ [])) ++ rest) e in
-            let x = tag .right d ((valBytes (depth + 1) v ++ 0 ∷ []) ++ rest) (n .0) (u .2 ∙ append-assoc (uintBytes d) (valBytes (depth + 1) v ++ 0 ∷ []) rest) in
-            let inner : drop t bytes ≡ (valBytes (depth + 1) v ++ []) ++ 0 ∷ rest = x .0 ∙ append-assoc (valBytes (depth + 1) v) (0 ∷ []) rest ∙ ap (λ (l : List ℕ). l ++ 0 ∷ rest) (sym (append-nil (valBytes (depth + 1) v))) in
-            let nw : valWords v ++ [] ≡ valWords v = append-nil (valWords v) in
-            let np : valPool v ++ [] ≡ valPool v = append-nil (valPool v) in
-            let lnw : length (valWords v ++ []) ≡ length (valWords v) = ap length nw in
-            let lnp : length (valPool v ++ []) ≡ length (valPool v) = ap length np in
-            let y = row .row (depth + 1) (Vals.AddVal v Vals.NoVal) (0 ∷ rest) (n .1, tt) refl inner (omega (arith, tag .kept)) (omega arith) in
-            let z = head-at bytes (r .next) 0 rest (y .0 .left) in
-            record {
-              left = ap (λ (k : ℕ). drop k bytes) (far (z .0)) ∙ z .2;
-              at-words = omega (arith, y .0 .at-words);
-              at-pool = omega (arith, y .0 .at-pool);
-              written = put-then win w1 wout w (w + 2) (6 ∷ d ∷ []) (valWords v) (omega arith) refl (x .1) (y .0 .written ∙ ap (put w1 (w + 2)) nw);
-              pooled = y .0 .pooled ∙ ap (put pin p) np;
-            }
-
-module _ (bytes : List ℕ) (i : ℕ) (win : List ℕ) (w : ℕ) (pin : List ℕ) (p : ℕ) (h : i < length bytes) where
-  -- nothing is filled
-  pub group-stays : w ≤ length win → p ≤ length pin → One bytes i win w pin p (i + 1) w p win pin → GroupFilled bytes i win w pin p (record { next = i + 1; words = w; pool = p; count = 0 }) win pin
-  group-stays a b o = record { onward = record { on = omega arith; inside = omega arith; word-in = a; pool-in = b; few = omega arith; kept-words = refl; kept-pool = refl }; says = o }
-
-  module _ (room : 2 ≤ length win - w) (r : Filled) (wout pout : List ℕ) (next : ℕ) (low : r .next ≤ next) (high : next ≤ length bytes) (far : r .next < length bytes → next ≡ r .next + 1) where
-    pub record-filled : getD bytes i 0 ≡ 0x22 → (w1 : List ℕ) → FieldsFilled bytes (i + 1) win (w + 2) pin p r w1 pout → wout ≡ put w1 w (5 ∷ r .count ∷ [])
-        → GroupFilled bytes i win w pin p (record { next = next; words = r .words; pool = r .pool; count = 0 }) wout pout
-    record-filled m w1 f e = record {
-      onward = record {
-        on = omega (arith, f .onward .on);
-        inside = high;
-        word-in = f .onward .word-in;
-        pool-in = f .onward .pool-in;
-        few = omega arith;
-        kept-words = ap length e ∙ length-put w1 w (5 ∷ r .count ∷ []) (omega (arith, f .onward .kept-words)) ∙ f .onward .kept-words;
-        kept-pool = f .onward .kept-pool;
-      };
-      says = a-record bytes i win w pin p next (r .words) (r .pool) wout pout r room far refl refl m w1 (f .says) e;
-    }
-
-    pub union-filled : getD bytes i 0 ≡ 0x52 → (t : ℕ) (w1 : List ℕ) → NumberFilled uintBytes 6 bytes (i + 1) win w t w1 → FieldsFilled bytes t w1 (w + 2) pin p r wout pout
-        → GroupFilled bytes i win w pin p (record { next = next; words = r .words; pool = r .pool; count = 0 }) wout pout
-    union-filled m t w1 d f = record {
-      onward = record {
-        on = omega (arith, d .on, f .onward .on);
-        inside = high;
-        word-in = omega (arith, f .onward .word-in, d .kept);
-        pool-in = f .onward .pool-in;
-        few = omega arith;
-        kept-words = f .onward .kept-words ∙ d .kept;
-        kept-pool = f .onward .kept-pool;
-      };
-      says = a-union bytes i win w pin p next (r .words) (r .pool) wout pout r room far refl refl m t w1 d (f .says);
-    }
-
--- ---- the loop over plain fields and groups
-
-module _ (bytes : List ℕ) (i : ℕ) (win : List ℕ) (w : ℕ) (pin : List ℕ) (p j : ℕ) (wl : List ℕ) (w1 : ℕ) (pl : List ℕ) (p1 n : ℕ) (v : Passing bytes i win w pin p 0 j wl w1 pl p1 n)
-    (r : Filled) (wr pr : List ℕ) (f : Passed bytes j wl w1 pl p1 n r wr pr) where
-  pub fields-end : (r .next < length bytes → getD bytes (r .next) 0 ≡ 0) → FieldsFilled bytes i win w pin p r wr pr
-  fields-end h = record {
-    onward = record {
-      on = omega (arith, v .on, f .onward .on);
-      inside = f .onward .inside;
-      word-in = omega (arith, f .onward .word-in, v .kept-words);
-      pool-in = omega (arith, f .onward .pool-in, v .kept-pool);
-      few = f .onward .few;
-      kept-words = f .onward .kept-words ∙ v .kept-words;
-      kept-pool = f .onward .kept-pool ∙ v .kept-pool;
-    };
-    says = v .so-far r wr pr (f .so-far r wr pr (row-none bytes wr pr r h));
-  }
-
-  module _ (h : r .next < length bytes) (z : getD bytes (r .next) 0 ≡ 0 → ⊥) where
-    pub group-opens : Opens (getD bytes (r .next) 0)
-    group-opens = record { opens = λ m. f .stop h z m }
-
-    pub passing-group : (g : Filled) (wm pm : List ℕ) → GroupFilled bytes (r .next) wr (r .words) pr (r .pool) g wm pm → Passing bytes i win w pin p 0 (g .next) wm (g .words) pm (g .pool) (r .count + 1)
-    passing-group g wm pm s = record {
-      on = omega (arith, v .on, f .onward .on, s .onward .on);
-      inside = s .onward .inside;
-      word-in = omega (arith, s .onward .word-in, f .onward .kept-words, v .kept-words);
-      pool-in = omega (arith, s .onward .pool-in, f .onward .kept-pool, v .kept-pool);
-      few = omega (arith, f .onward .few, s .onward .on);
-      kept-words = s .onward .kept-words ∙ f .onward .kept-words ∙ v .kept-words;
-      kept-pool = s .onward .kept-pool ∙ f .onward .kept-pool ∙ v .kept-pool;
-      so-far = λ e we pe q. v .so-far e we pe
-          (f .so-far e we pe
-          (row-more bytes (r .next) wr (r .words) pr (r .pool) (r .count) h z (g .next) (g .words) (g .pool) wm pm (s .onward .kept-words) (s .onward .kept-pool) (s .says) e we pe q));
-    }
+    -- a union: its two words by its tag, then its payload, which is one field one deeper
+    pub union-filled : {i : ℕ} {w1 : List ℕ} → getD bytes (s .next) 0 ≡ 0x52 → NumberFilled uintBytes 6 bytes (s .next + 1) (a .words) (s .words) i w1
+        → FieldsFilled bytes (standing i (s .words + 2) (s .pool) 0) (depth + 1) (lent w1 (a .pool)) r (lent wout pout) → GroupFilled bytes s depth a (standing next (r .words) (r .pool) 0) (lent wout pout)
+    unfolding built fits valBytes valsBytes valWords valsWords valPool valsPool markKind
+    union-filled {i} {w1} m tag f =
+        let o = f .onward in
+        record {
+          onward = record {
+            on = omega (arith, tag .on, o .on, back .on);
+            inside = back .inside;
+            word-in = omega (arith, o .word-in, tag .kept);
+            pool-in = o .pool-in;
+            few = omega arith;
+            kept-words = o .kept-words ∙ tag .kept;
+            kept-pool = o .kept-pool;
+          };
+          says = by-kind 6 (ap markKind m) (λ v t rest fit so st e lw lp.
+              let d = numberIn v in
+              let x = payloadIn v in
+              let g = payload-fits t depth d x fit in
+              let inner = valBytes (depth + 1) x in
+              let u = head-at bytes (s .next) e in
+              let n = tag .right d ((inner ++ 0 ∷ []) ++ rest) (so .0) (u .2 ∙ append-assoc (uintBytes d) (inner ++ 0 ∷ []) rest) in
+              let nw = append-nil (valWords x) in
+              let np = append-nil (valPool x) in
+              let all : fitsAll (Tys.AddTy (g .0) Tys.NoTy) (depth + 1) (Vals.AddVal x Vals.NoVal) ≡ fine = ap (λ (q : Answer Unit). andThen q (λ k. fine)) (g .1) in
+              let y = f .says .row (Tys.AddTy (g .0) Tys.NoTy) (Vals.AddVal x Vals.NoVal) (0 ∷ rest) all (so .1, tt) (group-end depth rest st)
+              (n .0 ∙ append-assoc inner (0 ∷ []) rest ∙ ap (λ (l : List ℕ). l ++ 0 ∷ rest) (sym (append-nil inner))) (omega (arith, tag .kept, ap length nw)) (omega (arith, ap length np)) in
+              let z = head-at bytes (r .next) (y .0 .left) in
+              record {
+                left = ap (λ (k : ℕ). drop k bytes) (back .right (z .0)) ∙ z .2;
+                at-words = omega (arith, y .0 .at-words, ap length nw);
+                at-pool = omega (arith, y .0 .at-pool, ap length np);
+                written = put-then (a .words) (s .words) (6 ∷ d ∷ []) (valWords x) (omega arith) refl (n .1) (y .0 .written ∙ ap (put w1 (s .words + 2)) nw);
+                pooled = y .0 .pooled ∙ ap (put (a .pool) (s .pool)) np;
+              });
+        }

@@ -1,13 +1,14 @@
 // The values that are no groups, each by its mark. Where the bytes are no such value, or there is no room, any later place is the answer.
 use scalar::runs::Measure;
 ghost use mathlib.Core.Path.{_≡_};
+ghost use mathlib.Core.Bool.{false};
 ghost use mathlib.Core.List.{[], _∷_};
 ghost use Prim.Native.Nat.{_+_, _≤_, _<_};
 ghost use lib.ListN.{length, getD, take, drop};
 ghost use Rattle.format.specs.Scalar.{intBytes, uintBytes, refBytes};
 ghost use Rattle.format.specs.Read.{number};
 ghost use Rattle.format.specs.Fields.{put};
-ghost use Rattle.fill.specs.Fill.{AsMark, Plain, Width, NumberFilled, RunFilled, LeafFilled, taken};
+ghost use Rattle.fill.specs.Fill.{lent, standing, opens, Width, NumberFilled, RunFilled, LeafFilled, taken};
 
 // Two words on the sheet: a kind and a number.
 pub fn put_pair(words: &mut [u64], w: usize, kind: u64, x: u64)
@@ -16,19 +17,6 @@ pub fn put_pair(words: &mut [u64], w: usize, kind: u64, x: u64)
 {
     words[w] = kind;
     words[w + 1] = x;
-}
-
-// Is it the mark of a value that is no group?
-pub fn plain_mark(mark: u8) -> bool
-    ensures { λ r. ⌜ AsMark mark r ⌝ }
-{
-    if mark == format::MARK_TERM {
-        return false;
-    }
-    if mark == format::MARK_RECORD {
-        return false;
-    }
-    mark != format::MARK_UNION
 }
 
 // How many bytes stand behind the mark of an unsigned integer.
@@ -92,10 +80,11 @@ fn fill_negative(bytes: &[u8], i: usize, words: &mut [u64], w: usize) -> usize
     let j = i + 1;
     let ones: u64 = 0xffff_ffff_ffff_ffff >> (64 - 8 * k);
     let x = std::num::wrapping_sub_u64(number_at(bytes, j, k), ones);
-    put_pair(words, w, 1, x);
+    put_pair(words, w, format::VALUE_INT, x);
     j + k
 }
 
+// A signed integer.
 fn fill_int(bytes: &[u8], i: usize, words: &mut [u64], w: usize) -> usize
     requires { ⌜ (i < length (now bytes)) × (w + 2 ≤ length (now words)) ⌝ }
     ensures { λ r. ⌜ NumberFilled intBytes 1 (now (bytes .entry)) i (now (words .entry)) w r (now (words .exit)) ⌝ }
@@ -103,9 +92,10 @@ fn fill_int(bytes: &[u8], i: usize, words: &mut [u64], w: usize) -> usize
     if bytes[i] < format::MARK_INT_ZERO {
         return fill_negative(bytes, i, words, w);
     }
-    fill_uint(bytes, i, words, w, 1)
+    fill_uint(bytes, i, words, w, format::VALUE_INT)
 }
 
+// A reference.
 fn fill_ref(bytes: &[u8], i: usize, words: &mut [u64], w: usize) -> usize
     requires { ⌜ (i < length (now bytes)) × (w + 2 ≤ length (now words)) ⌝ }
     ensures { λ r. ⌜ NumberFilled refBytes 4 (now (bytes .entry)) i (now (words .entry)) w r (now (words .exit)) ⌝ }
@@ -115,7 +105,7 @@ fn fill_ref(bytes: &[u8], i: usize, words: &mut [u64], w: usize) -> usize
         return bytes.len();
     }
     let x = scalar::ints::read_number(&bytes[j..], 8);
-    put_pair(words, w, 4, x);
+    put_pair(words, w, format::VALUE_FACT, x);
     j + 8
 }
 
@@ -130,7 +120,7 @@ fn fill_run(
     kind: u64,
 ) -> usize
     requires { ⌜ (i < length (now bytes)) × (w + 2 ≤ length (now words)) × (p ≤ length (now pool)) ⌝ }
-    ensures { λ r. ⌜ RunFilled kind (now (bytes .entry)) i (now (words .entry)) w (now (pool .entry)) p r (now (words .exit)) (now (pool .exit)) ⌝ }
+    ensures { λ r. ⌜ RunFilled kind (now (bytes .entry)) (standing i w p 0) (lent (now (words .entry)) (now (pool .entry))) r (lent (now (words .exit)) (now (pool .exit))) ⌝ }
 {
     let j = i + 1;
     match scalar::runs::measure_run(&bytes[j..]) {
@@ -160,15 +150,15 @@ pub fn fill_leaf(
     pool: &mut [u8],
     p: usize,
 ) -> usize
-    requires { ⌜ (i < length (now bytes)) × (w + 2 ≤ length (now words)) × (p ≤ length (now pool)) ⌝ ∗ ⌜ Plain (getD (now bytes) i 0) ⌝ }
-    ensures { λ r. ⌜ LeafFilled (now (bytes .entry)) i (now (words .entry)) w (now (pool .entry)) p r (now (words .exit)) (now (pool .exit)) ⌝ }
+    requires { ⌜ (i < length (now bytes)) × (w + 2 ≤ length (now words)) × (p ≤ length (now pool)) × (opens (getD (now bytes) i 0) ≡ false) ⌝ }
+    ensures { λ r. ⌜ LeafFilled (now (bytes .entry)) (standing i w p 0) (lent (now (words .entry)) (now (pool .entry))) r (lent (now (words .exit)) (now (pool .exit))) ⌝ }
 {
     let mark = bytes[i];
     if mark == format::MARK_STRING {
-        return fill_run(bytes, i, words, w, pool, p, 2);
+        return fill_run(bytes, i, words, w, pool, p, format::VALUE_STR);
     }
     if mark == format::MARK_BYTES {
-        return fill_run(bytes, i, words, w, pool, p, 3);
+        return fill_run(bytes, i, words, w, pool, p, format::VALUE_BYTES);
     }
     if mark == format::MARK_FACT_REF {
         return fill_ref(bytes, i, words, w);

@@ -1,5 +1,5 @@
 // The value sheet of a key that is known to decode, by the key's marks alone: a value's type has no part in its bytes.
-// A typed value holds no null, so a 00 where a field would begin ends the fields.
+// Fields end at the end of the key, and inside a group where the group does.
 mod groups;
 mod leaves;
 

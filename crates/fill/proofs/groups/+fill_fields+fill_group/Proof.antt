@@ -1,11 +1,16 @@
--- `fill_fields` and `fill_group` meet their contracts.
+-- The walk by measure: a group's fields stand behind its mark, so the bytes left fall from a group to its fields, and fields are one above their own groups.
+-- The loop's invariant is `Passing`: what the fields that are left fill, they fill of all; the bytes left fall. Each way out is a law of RowLaws.
+use mathlib.Core.Path.{sym, _∙_}
+use mathlib.Core.Logic.{⊎-elim}
 use Prim.Native.Nat.{ℕ, _+_, _-_, _*_, _<_}
 use native.Mathlib.Omega.{arith}
 use lib.ListN.{length}
 use borrow.Author.Needs.{needs}
-use Rattle.fill.proofs.RowLaws as laws
-use borrow.Fn.Kinds.{In}
+use borrow.Author.Tests.{not-true, not-false}
+use borrow.Fn.Kinds.{In, Out}
 use borrow.Fn.PlainCycle.{Measures, is, falls, and}
+use Rattle.fill.specs.Fill.{lent, standing}
+use Rattle.fill.proofs.RowLaws as laws
 use Rattle.fill.proofs.groups.fill_fields.Reads as fill-fields
 use Rattle.fill.proofs.groups.fill_fields.Kinds as fill-fields-kinds
 use Rattle.fill.proofs.groups.+fill_fields+fill_group.Lts-fill_fields as fill-fields-lts
@@ -13,8 +18,11 @@ use Rattle.fill.proofs.groups.fill_group.Reads as fill-group
 use Rattle.fill.proofs.groups.fill_group.Kinds as fill-group-kinds
 use Rattle.fill.proofs.groups.+fill_fields+fill_group.Lts-fill_group as fill-group-lts
 use Rattle.fill.proofs.groups.behind.Reads as behind-reads
-use Rattle.fill.proofs.groups.fill_plain.Reads as fill-plain-reads
+use Rattle.fill.proofs.groups.fields_end.Reads as fields-end-reads
+use Rattle.fill.proofs.groups.opens_group.Reads as opens-group-reads
+use Rattle.fill.proofs.leaves.fill_leaf.Reads as fill-leaf-reads
 use Rattle.fill.proofs.leaves.fill_uint.Reads as fill-uint-reads
+use Rattle.fill.proofs.leaves.pool_taken.Reads as pool-taken-reads
 use Rattle.fill.proofs.leaves.put_pair.Reads as put-pair-reads
 use Rattle.fill.proofs.groups.+fill_fields+fill_group.{statement}
 use Rattle.fill.proofs.groups.+fill_fields+fill_group.Tie.{close}
@@ -41,151 +49,261 @@ abbrev fill-group-below : ℕ → In 3 fill-group-kinds.ps
 fill-group-below t =
     and 3 fill-group-kinds.ps (falls 3 fill-group-kinds.ps _<_ μ-fill-group t) fill-group.Pre
 
+-- ---- fields
+
+abbrev fill-fields-claims : ℕ → fill-fields-lts.Claims
+fill-fields-claims t = (
+  fields-end-reads.Asked,
+  fields-end-reads.Learnt,
+  opens-group-reads.Asked,
+  opens-group-reads.Learnt,
+  fill-group-below t,
+  fill-group.Post,
+  fill-leaf-reads.Asked,
+  fill-leaf-reads.Learnt,
+  pool-taken-reads.Asked,
+  pool-taken-reads.Learnt,
+)
+
 abbrev fill-fields-Inv-loop : fill-fields-lts.InvT-loop
-fill-fields-Inv-loop bytes i words₀ w pool₀ p j₀ w1₀ p1₀ n₀ words pool j w1 p1 n = laws.Passing bytes i words₀ w pool₀ p 0 j words w1 pool p1 n
+fill-fields-Inv-loop bytes i words₀ w pool₀ p depth j₀ w1₀ p1₀ n₀ words pool j w1 p1 n =
+    laws.Passing bytes (standing i w p 0) depth (lent words₀ pool₀) (standing j w1 p1 n) (lent words pool)
 
 abbrev fill-fields-μ-loop : fill-fields-lts.MeasureT-loop
-fill-fields-μ-loop bytes i words₀ w pool₀ p j₀ w1₀ p1₀ n₀ words pool j w1 p1 n = length bytes - j
+fill-fields-μ-loop bytes i words₀ w pool₀ p depth j₀ w1₀ p1₀ n₀ words pool j w1 p1 n = length bytes - j
 
-fill-fields-loop-holds : (t : ℕ) → fill-fields-lts.Need-loop-holds (fill-plain-reads.Asked, fill-plain-reads.Learnt, fill-group-below t, fill-group.Post) (fill-fields-at t) fill-fields.Post fill-fields-Inv-loop fill-fields-μ-loop
-fill-fields-loop-holds t c = let q = c .before .before .before .pre .1 in laws.passing-start _ _ _ _ _ _ _ (q .place) (q .word-in) (q .pool-in) (omega arith)
+abbrev fill-fields-need : (fill-fields-lts.Claims → In 3 fill-fields-kinds.ps → Out 3 fill-fields-kinds.ps fill-fields-kinds.r → fill-fields-lts.InvT-loop → fill-fields-lts.MeasureT-loop → Type 0) → Type 0
+fill-fields-need N = (t : ℕ) → N (fill-fields-claims t) (fill-fields-at t) fill-fields.Post fill-fields-Inv-loop fill-fields-μ-loop
 
-fill-fields-fill-plain-requires : (t : ℕ) → fill-fields-lts.Need-fill-plain-requires (fill-plain-reads.Asked, fill-plain-reads.Learnt, fill-group-below t, fill-group.Post) (fill-fields-at t) fill-fields.Post fill-fields-Inv-loop fill-fields-μ-loop
-fill-fields-fill-plain-requires t c κs = search needs
+fill-fields-loop-holds : fill-fields-need fill-fields-lts.Need-loop-holds
+fill-fields-loop-holds t c = laws.passing-start (omega arith) (c .before .before .before .pre .1)
 
-fill-fields-same-length : (t : ℕ) → fill-fields-lts.Need-same-length (fill-plain-reads.Asked, fill-plain-reads.Learnt, fill-group-below t, fill-group.Post) (fill-fields-at t) fill-fields.Post fill-fields-Inv-loop fill-fields-μ-loop
+fill-fields-fields-end-requires : fill-fields-need fill-fields-lts.Need-fields-end-requires
+fill-fields-fields-end-requires t c κs = search needs
+
+fill-fields-shared-slice-read-mark : fill-fields-need fill-fields-lts.Need-shared-slice-read-mark
+fill-fields-shared-slice-read-mark t c =
+    let i = c .before in
+    let f = i .before in
+    let l = f .before in
+    let s = l .before .before .before .before in
+    laws.goes-on (s .args .bytes .now) (l .loop .j) (s .args .depth) (sym (not-true _ (i .if1 .taken)) ∙ f .fields-end .ensures)
+
+fill-fields-sub-if2 : fill-fields-need fill-fields-lts.Need-sub-if2
+fill-fields-sub-if2 t c = search needs
+
+fill-fields-opens-group-requires : fill-fields-need fill-fields-lts.Need-opens-group-requires
+fill-fields-opens-group-requires t c κs = search needs
+
+fill-fields-fill-group-requires : fill-fields-need fill-fields-lts.Need-fill-group-requires
+fill-fields-fill-group-requires t c κs =
+    let g = c .before .before in
+    let i = g .before .before .before .before in
+    let f = i .before in
+    let l = f .before in
+    let s = l .before .before .before .before in
+    let on = laws.goes-on (s .args .bytes .now) (l .loop .j) (s .args .depth) (sym (not-true _ (i .if1 .taken)) ∙ f .fields-end .ensures) in
+    let inv = l .loop .inv in
+    (omega (arith, s .pre .0, inv .onward .on), (laws.passing-ready inv (s .pre .1 .deep), (on, omega (arith, g .before .before .if2 .left), sym (g .before .opens-group .ensures) ∙ g .if3 .taken)))
+
+fill-fields-fill-leaf-requires : fill-fields-need fill-fields-lts.Need-fill-leaf-requires
+fill-fields-fill-leaf-requires t c κs =
+    let g = c .before .before in
+    let i = g .before .before .before .before in
+    let f = i .before in
+    let l = f .before in
+    let s = l .before .before .before .before in
+    let on = laws.goes-on (s .args .bytes .now) (l .loop .j) (s .args .depth) (sym (not-true _ (i .if1 .taken)) ∙ f .fields-end .ensures) in
+    let inv = l .loop .inv in
+    (on, omega (arith, g .before .before .if2 .left), omega (arith, inv .onward .pool-in, inv .onward .kept-pool), sym (g .before .opens-group .ensures) ∙ g .if3 .left)
+
+fill-fields-add-pool-taken : fill-fields-need fill-fields-lts.Need-add-pool-taken
+fill-fields-add-pool-taken t c = search needs
+
+fill-fields-mul-pool-taken : fill-fields-need fill-fields-lts.Need-mul-pool-taken
+fill-fields-mul-pool-taken t c = search needs
+
+fill-fields-slice-read-pool-taken : fill-fields-need fill-fields-lts.Need-slice-read-pool-taken
+fill-fields-slice-read-pool-taken t c = search needs
+
+fill-fields-pool-taken-requires : fill-fields-need fill-fields-lts.Need-pool-taken-requires
+fill-fields-pool-taken-requires t c κs = search needs
+
+fill-fields-add-p1 : fill-fields-need fill-fields-lts.Need-add-p1
+fill-fields-add-p1 t c = search needs
+
+fill-fields-add-w1 : fill-fields-need fill-fields-lts.Need-add-w1
+fill-fields-add-w1 t c = search needs
+
+fill-fields-add-n : fill-fields-need fill-fields-lts.Need-add-n
+fill-fields-add-n t c =
+    let i = c .before .before .before .before in
+    let f = i .before in
+    let l = f .before in
+    let s = l .before .before .before .before in
+    omega (arith, l .loop .inv .onward .few, laws.goes-on (s .args .bytes .now) (l .loop .j) (s .args .depth) (sym (not-true _ (i .if1 .taken)) ∙ f .fields-end .ensures))
+
+fill-fields-loop-less : fill-fields-need fill-fields-lts.Need-loop-less
+fill-fields-loop-less t c =
+    ⊎-elim
+    (λ g. omega (arith, g .3 .ensures .onward .on, g .3 .ensures .onward .inside, g .10))
+    (λ g. omega (arith, g .3 .ensures .onward .on, g .3 .ensures .onward .inside, g .12))
+    (c .if3 .came)
+
+fill-fields-loop-again : fill-fields-need fill-fields-lts.Need-loop-again
+fill-fields-loop-again t c =
+    let i = c .before .before .before .before in
+    let f = i .before in
+    let l = f .before in
+    let s = l .before .before .before .before in
+    let on = sym (not-true _ (i .if1 .taken)) ∙ f .fields-end .ensures in
+    ⊎-elim
+    (λ g. laws.passing-on (l .loop .inv) on (g .3 .ensures) (g .8) (g .9) (g .10) (g .11) (g .12))
+    (λ g. laws.passing-on (l .loop .inv) on (laws.leaf-filled (s .args .depth) (g .3 .ensures)) (g .10) (g .11) (g .12) (g .13) (rw (← g .9 .ensures) (g .14)))
+    (c .if3 .came)
+
+fill-fields-same-length : fill-fields-need fill-fields-lts.Need-same-length
 fill-fields-same-length t c = search needs
 
-fill-fields-same-length-2 : (t : ℕ) → fill-fields-lts.Need-same-length-2 (fill-plain-reads.Asked, fill-plain-reads.Learnt, fill-group-below t, fill-group.Post) (fill-fields-at t) fill-fields.Post fill-fields-Inv-loop fill-fields-μ-loop
+fill-fields-same-length-2 : fill-fields-need fill-fields-lts.Need-same-length-2
 fill-fields-same-length-2 t c = search needs
 
-fill-fields-returns : (t : ℕ) → fill-fields-lts.Need-returns (fill-plain-reads.Asked, fill-plain-reads.Learnt, fill-group-below t, fill-group.Post) (fill-fields-at t) fill-fields.Post fill-fields-Inv-loop fill-fields-μ-loop
-fill-fields-returns t c = laws.fields-end (c .before .before .before .before .before .before .before .before .before .before .before .before .args .bytes .now) (c .before .before .before .before .before .before .before .before .before .before .before .before .args .i) (c .before .before .before .before .before .before .before .before .before .before .before .before .args .words .now) (c .before .before .before .before .before .before .before .before .before .before .before .before .args .w) (c .before .before .before .before .before .before .before .before .before .before .before .before .args .pool .now) (c .before .before .before .before .before .before .before .before .before .before .before .before .args .p) (c .before .before .before .before .before .before .before .before .loop .j) (c .before .before .before .before .before .before .before .before .loop .words) (c .before .before .before .before .before .before .before .before .loop .w1) (c .before .before .before .before .before .before .before .before .loop .pool) (c .before .before .before .before .before .before .before .before .loop .p1) (c .before .before .before .before .before .before .before .before .loop .n) (c .before .before .before .before .before .before .before .before .loop .inv) (c .before .before .before .before .before .fill-plain .result) _ _ (c .before .before .before .before .before .fill-plain .ensures) (λ h. absurd (omega (arith, c .if1 .taken)))
+fill-fields-returns : fill-fields-need fill-fields-lts.Need-returns
+fill-fields-returns t c =
+    let l = c .before .before in
+    laws.passing-end (l .loop .inv) (sym (not-false _ (c .if1 .left)) ∙ c .before .fields-end .ensures)
 
-fill-fields-shared-slice-read-if2 : (t : ℕ) → fill-fields-lts.Need-shared-slice-read-if2 (fill-plain-reads.Asked, fill-plain-reads.Learnt, fill-group-below t, fill-group.Post) (fill-fields-at t) fill-fields.Post fill-fields-Inv-loop fill-fields-μ-loop
-fill-fields-shared-slice-read-if2 t c = search needs
-
-fill-fields-same-length-3 : (t : ℕ) → fill-fields-lts.Need-same-length-3 (fill-plain-reads.Asked, fill-plain-reads.Learnt, fill-group-below t, fill-group.Post) (fill-fields-at t) fill-fields.Post fill-fields-Inv-loop fill-fields-μ-loop
+fill-fields-same-length-3 : fill-fields-need fill-fields-lts.Need-same-length-3
 fill-fields-same-length-3 t c = search needs
 
-fill-fields-same-length-4 : (t : ℕ) → fill-fields-lts.Need-same-length-4 (fill-plain-reads.Asked, fill-plain-reads.Learnt, fill-group-below t, fill-group.Post) (fill-fields-at t) fill-fields.Post fill-fields-Inv-loop fill-fields-μ-loop
+fill-fields-same-length-4 : fill-fields-need fill-fields-lts.Need-same-length-4
 fill-fields-same-length-4 t c = search needs
 
-fill-fields-returns-2 : (t : ℕ) → fill-fields-lts.Need-returns-2 (fill-plain-reads.Asked, fill-plain-reads.Learnt, fill-group-below t, fill-group.Post) (fill-fields-at t) fill-fields.Post fill-fields-Inv-loop fill-fields-μ-loop
-fill-fields-returns-2 t c = laws.fields-end (c .before .before .before .before .before .before .before .before .before .before .before .before .before .before .args .bytes .now) (c .before .before .before .before .before .before .before .before .before .before .before .before .before .before .args .i) (c .before .before .before .before .before .before .before .before .before .before .before .before .before .before .args .words .now) (c .before .before .before .before .before .before .before .before .before .before .before .before .before .before .args .w) (c .before .before .before .before .before .before .before .before .before .before .before .before .before .before .args .pool .now) (c .before .before .before .before .before .before .before .before .before .before .before .before .before .before .args .p) (c .before .before .before .before .before .before .before .before .before .before .loop .j) (c .before .before .before .before .before .before .before .before .before .before .loop .words) (c .before .before .before .before .before .before .before .before .before .before .loop .w1) (c .before .before .before .before .before .before .before .before .before .before .loop .pool) (c .before .before .before .before .before .before .before .before .before .before .loop .p1) (c .before .before .before .before .before .before .before .before .before .before .loop .n) (c .before .before .before .before .before .before .before .before .before .before .loop .inv) (c .before .before .before .before .before .before .before .fill-plain .result) _ _ (c .before .before .before .before .before .before .before .fill-plain .ensures) (λ h. c .if2 .taken)
+fill-fields-returns-2 : fill-fields-need fill-fields-lts.Need-returns-2
+fill-fields-returns-2 t c =
+    let i = c .before .before in
+    let f = i .before in
+    let l = f .before in
+    laws.passing-short (l .loop .inv) (sym (not-true _ (i .if1 .taken)) ∙ f .fields-end .ensures) (c .if2 .taken)
 
-fill-fields-fill-group-requires : (t : ℕ) → fill-fields-lts.Need-fill-group-requires (fill-plain-reads.Asked, fill-plain-reads.Learnt, fill-group-below t, fill-group.Post) (fill-fields-at t) fill-fields.Post fill-fields-Inv-loop fill-fields-μ-loop
-fill-fields-fill-group-requires t c κs = let f = c .before .before .before .before .before .before .before .before .before .fill-plain .ensures .onward in let q = c .before .before .before .before .before .before .before .before .before .before .before .before .before .before .before .before .pre .0 in (omega (arith, q, f .on, c .before .before .before .before .before .before .before .before .before .before .before .before .loop .inv .on), (record { place = f .inside; word-in = omega (arith, f .word-in, f .kept-words); pool-in = omega (arith, f .pool-in, f .kept-pool) }, (omega (arith, c .before .before .before .before .if1 .left), laws.group-opens (c .before .before .before .before .before .before .before .before .before .before .before .before .before .before .before .before .args .bytes .now) (c .before .before .before .before .before .before .before .before .before .before .before .before .before .before .before .before .args .i) (c .before .before .before .before .before .before .before .before .before .before .before .before .before .before .before .before .args .words .now) (c .before .before .before .before .before .before .before .before .before .before .before .before .before .before .before .before .args .w) (c .before .before .before .before .before .before .before .before .before .before .before .before .before .before .before .before .args .pool .now) (c .before .before .before .before .before .before .before .before .before .before .before .before .before .before .before .before .args .p) (c .before .before .before .before .before .before .before .before .before .before .before .before .loop .j) (c .before .before .before .before .before .before .before .before .before .before .before .before .loop .words) (c .before .before .before .before .before .before .before .before .before .before .before .before .loop .w1) (c .before .before .before .before .before .before .before .before .before .before .before .before .loop .pool) (c .before .before .before .before .before .before .before .before .before .before .before .before .loop .p1) (c .before .before .before .before .before .before .before .before .before .before .before .before .loop .n) (c .before .before .before .before .before .before .before .before .before .before .before .before .loop .inv) (c .before .before .before .before .before .before .before .before .before .fill-plain .result) _ _ (c .before .before .before .before .before .before .before .before .before .fill-plain .ensures) (omega (arith, c .before .before .before .before .if1 .left)) (c .before .before .if2 .left))))
+-- ---- a group
 
-fill-fields-add-n : (t : ℕ) → fill-fields-lts.Need-add-n (fill-plain-reads.Asked, fill-plain-reads.Learnt, fill-group-below t, fill-group.Post) (fill-fields-at t) fill-fields.Post fill-fields-Inv-loop fill-fields-μ-loop
-fill-fields-add-n t c = omega (arith, c .before .before .before .before .before .before .before .before .before .before .before .before .before .before .before .fill-plain .ensures .onward .few, c .before .before .before .before .before .before .before .before .before .before .if1 .left)
+abbrev fill-group-claims : ℕ → fill-group-lts.Claims
+fill-group-claims t =
+    (fill-fields-below t, fill-fields.Post, put-pair-reads.Asked, put-pair-reads.Learnt, behind-reads.Asked, behind-reads.Learnt, fill-uint-reads.Asked, fill-uint-reads.Learnt)
 
-fill-fields-loop-less : (t : ℕ) → fill-fields-lts.Need-loop-less (fill-plain-reads.Asked, fill-plain-reads.Learnt, fill-group-below t, fill-group.Post) (fill-fields-at t) fill-fields.Post fill-fields-Inv-loop fill-fields-μ-loop
-fill-fields-loop-less t c = omega (arith, c .before .before .before .before .before .before .before .before .before .before .before .before .before .before .before .fill-plain .ensures .onward .on, c .before .before .before .before .before .fill-group .ensures .onward .on, c .before .before .before .before .before .fill-group .ensures .onward .inside)
+abbrev fill-group-need : (fill-group-lts.Claims → In 3 fill-group-kinds.ps → Out 3 fill-group-kinds.ps fill-group-kinds.r → Type 0) → Type 0
+fill-group-need N = (t : ℕ) → N (fill-group-claims t) (fill-group-at t) fill-group.Post
 
-fill-fields-loop-again : (t : ℕ) → fill-fields-lts.Need-loop-again (fill-plain-reads.Asked, fill-plain-reads.Learnt, fill-group-below t, fill-group.Post) (fill-fields-at t) fill-fields.Post fill-fields-Inv-loop fill-fields-μ-loop
-fill-fields-loop-again t c = laws.passing-group (c .before .before .before .before .before .before .before .before .before .before .before .before .before .before .before .before .before .before .before .before .before .before .args .bytes .now) (c .before .before .before .before .before .before .before .before .before .before .before .before .before .before .before .before .before .before .before .before .before .before .args .i) (c .before .before .before .before .before .before .before .before .before .before .before .before .before .before .before .before .before .before .before .before .before .before .args .words .now) (c .before .before .before .before .before .before .before .before .before .before .before .before .before .before .before .before .before .before .before .before .before .before .args .w) (c .before .before .before .before .before .before .before .before .before .before .before .before .before .before .before .before .before .before .before .before .before .before .args .pool .now) (c .before .before .before .before .before .before .before .before .before .before .before .before .before .before .before .before .before .before .before .before .before .before .args .p) (c .before .before .before .before .before .before .before .before .before .before .before .before .before .before .before .before .before .before .loop .j) (c .before .before .before .before .before .before .before .before .before .before .before .before .before .before .before .before .before .before .loop .words) (c .before .before .before .before .before .before .before .before .before .before .before .before .before .before .before .before .before .before .loop .w1) (c .before .before .before .before .before .before .before .before .before .before .before .before .before .before .before .before .before .before .loop .pool) (c .before .before .before .before .before .before .before .before .before .before .before .before .before .before .before .before .before .before .loop .p1) (c .before .before .before .before .before .before .before .before .before .before .before .before .before .before .before .before .before .before .loop .n) (c .before .before .before .before .before .before .before .before .before .before .before .before .before .before .before .before .before .before .loop .inv) (c .before .before .before .before .before .before .before .before .before .before .before .before .before .before .before .fill-plain .result) _ _ (c .before .before .before .before .before .before .before .before .before .before .before .before .before .before .before .fill-plain .ensures) (omega (arith, c .before .before .before .before .before .before .before .before .before .before .if1 .left)) (c .before .before .before .before .before .before .before .before .if2 .left) _ _ _ (c .before .before .before .before .before .fill-group .ensures)
-
-fill-group-add-j : (t : ℕ) → fill-group-lts.Need-add-j (fill-fields-below t, fill-fields.Post, put-pair-reads.Asked, put-pair-reads.Learnt, behind-reads.Asked, behind-reads.Learnt, fill-uint-reads.Asked, fill-uint-reads.Learnt) (fill-group-at t) fill-group.Post
+fill-group-add-j : fill-group-need fill-group-lts.Need-add-j
 fill-group-add-j t c = search needs
 
-fill-group-sub-if1 : (t : ℕ) → fill-group-lts.Need-sub-if1 (fill-fields-below t, fill-fields.Post, put-pair-reads.Asked, put-pair-reads.Learnt, behind-reads.Asked, behind-reads.Learnt, fill-uint-reads.Asked, fill-uint-reads.Learnt) (fill-group-at t) fill-group.Post
-fill-group-sub-if1 t c = search needs
-
-fill-group-returns : (t : ℕ) → fill-group-lts.Need-returns (fill-fields-below t, fill-fields.Post, put-pair-reads.Asked, put-pair-reads.Learnt, behind-reads.Asked, behind-reads.Learnt, fill-uint-reads.Asked, fill-uint-reads.Learnt) (fill-group-at t) fill-group.Post
-fill-group-returns t c = laws.group-stays (c .before .before .before .before .args .bytes .now) (c .before .before .before .before .args .i) (c .before .before .before .before .args .words .now) (c .before .before .before .before .args .w) (c .before .before .before .before .args .pool .now) (c .before .before .before .before .args .p) (c .before .before .before .before .pre .1 .1 .0) (c .before .before .before .before .pre .1 .0 .word-in) (c .before .before .before .before .pre .1 .0 .pool-in) (laws.one-short (c .before .before .before .before .args .bytes .now) (c .before .before .before .before .args .i) (c .before .before .before .before .args .words .now) (c .before .before .before .before .args .w) (c .before .before .before .before .args .pool .now) (c .before .before .before .before .args .p) _ _ _ _ _ (c .if1 .taken))
-
-fill-group-add-inner : (t : ℕ) → fill-group-lts.Need-add-inner (fill-fields-below t, fill-fields.Post, put-pair-reads.Asked, put-pair-reads.Learnt, behind-reads.Asked, behind-reads.Learnt, fill-uint-reads.Asked, fill-uint-reads.Learnt) (fill-group-at t) fill-group.Post
+fill-group-add-inner : fill-group-need fill-group-lts.Need-add-inner
 fill-group-add-inner t c = search needs
 
-fill-group-shared-slice-read-if2 : (t : ℕ) → fill-group-lts.Need-shared-slice-read-if2 (fill-fields-below t, fill-fields.Post, put-pair-reads.Asked, put-pair-reads.Learnt, behind-reads.Asked, behind-reads.Learnt, fill-uint-reads.Asked, fill-uint-reads.Learnt) (fill-group-at t) fill-group.Post
-fill-group-shared-slice-read-if2 t c = search needs
+fill-group-add-inside : fill-group-need fill-group-lts.Need-add-inside
+fill-group-add-inside t c = search needs
 
-fill-group-fill-fields-requires : (t : ℕ) → fill-group-lts.Need-fill-fields-requires (fill-fields-below t, fill-fields.Post, put-pair-reads.Asked, put-pair-reads.Learnt, behind-reads.Asked, behind-reads.Learnt, fill-uint-reads.Asked, fill-uint-reads.Learnt) (fill-group-at t) fill-group.Post
+fill-group-shared-slice-read-if1 : fill-group-need fill-group-lts.Need-shared-slice-read-if1
+fill-group-shared-slice-read-if1 t c = search needs
+
+fill-group-fill-fields-requires : fill-group-need fill-group-lts.Need-fill-fields-requires
 fill-group-fill-fields-requires t c κs = search needs
 
-fill-group-put-pair-requires : (t : ℕ) → fill-group-lts.Need-put-pair-requires (fill-fields-below t, fill-fields.Post, put-pair-reads.Asked, put-pair-reads.Learnt, behind-reads.Asked, behind-reads.Learnt, fill-uint-reads.Asked, fill-uint-reads.Learnt) (fill-group-at t) fill-group.Post
+fill-group-put-pair-requires : fill-group-need fill-group-lts.Need-put-pair-requires
 fill-group-put-pair-requires t c κs = search needs
 
-fill-group-behind-requires : (t : ℕ) → fill-group-lts.Need-behind-requires (fill-fields-below t, fill-fields.Post, put-pair-reads.Asked, put-pair-reads.Learnt, behind-reads.Asked, behind-reads.Learnt, fill-uint-reads.Asked, fill-uint-reads.Learnt) (fill-group-at t) fill-group.Post
+fill-group-behind-requires : fill-group-need fill-group-lts.Need-behind-requires
 fill-group-behind-requires t c κs = search needs
 
-fill-group-same-length : (t : ℕ) → fill-group-lts.Need-same-length (fill-fields-below t, fill-fields.Post, put-pair-reads.Asked, put-pair-reads.Learnt, behind-reads.Asked, behind-reads.Learnt, fill-uint-reads.Asked, fill-uint-reads.Learnt) (fill-group-at t) fill-group.Post
+fill-group-same-length : fill-group-need fill-group-lts.Need-same-length
 fill-group-same-length t c = search needs
 
-fill-group-same-length-2 : (t : ℕ) → fill-group-lts.Need-same-length-2 (fill-fields-below t, fill-fields.Post, put-pair-reads.Asked, put-pair-reads.Learnt, behind-reads.Asked, behind-reads.Learnt, fill-uint-reads.Asked, fill-uint-reads.Learnt) (fill-group-at t) fill-group.Post
+fill-group-same-length-2 : fill-group-need fill-group-lts.Need-same-length-2
 fill-group-same-length-2 t c = search needs
 
-fill-group-returns-2 : (t : ℕ) → fill-group-lts.Need-returns-2 (fill-fields-below t, fill-fields.Post, put-pair-reads.Asked, put-pair-reads.Learnt, behind-reads.Asked, behind-reads.Learnt, fill-uint-reads.Asked, fill-uint-reads.Learnt) (fill-group-at t) fill-group.Post
-fill-group-returns-2 t c = laws.record-filled (c .before .before .before .before .before .before .before .before .before .before .before .before .before .before .before .before .before .before .args .bytes .now) (c .before .before .before .before .before .before .before .before .before .before .before .before .before .before .before .before .before .before .args .i) (c .before .before .before .before .before .before .before .before .before .before .before .before .before .before .before .before .before .before .args .words .now) (c .before .before .before .before .before .before .before .before .before .before .before .before .before .before .before .before .before .before .args .w) (c .before .before .before .before .before .before .before .before .before .before .before .before .before .before .before .before .before .before .args .pool .now) (c .before .before .before .before .before .before .before .before .before .before .before .before .before .before .before .before .before .before .args .p) (c .before .before .before .before .before .before .before .before .before .before .before .before .before .before .before .before .before .before .pre .1 .1 .0) (omega (arith, c .before .before .before .before .before .before .before .before .before .before .before .before .before .before .if1 .left)) (c .before .before .before .before .before .before .before .before .before .fill-fields .result) _ _ _ (c .behind .ensures .0) (c .behind .ensures .1) (c .behind .ensures .2) (c .before .before .before .before .before .before .before .before .before .before .before .before .if2 .taken) _ (c .before .before .before .before .before .before .before .before .before .fill-fields .ensures) (c .before .before .before .put-pair .ensures)
+fill-group-returns : fill-group-need fill-group-lts.Need-returns
+fill-group-returns t c =
+    let p = c .before .before .before in
+    let f = p .before .before .before .before .before .before in
+    let i = f .before .before .before in
+    let s = i .before .before .before .before .before in
+    laws.record-filled (s .pre .1 .1 .0) (s .pre .1 .1 .1) (c .behind .ensures) (i .if1 .taken) (f .fill-fields .ensures) (p .put-pair .ensures)
 
-fill-group-returns-3 : (t : ℕ) → fill-group-lts.Need-returns-3 (fill-fields-below t, fill-fields.Post, put-pair-reads.Asked, put-pair-reads.Learnt, behind-reads.Asked, behind-reads.Learnt, fill-uint-reads.Asked, fill-uint-reads.Learnt) (fill-group-at t) fill-group.Post
-fill-group-returns-3 t c = laws.group-stays (c .before .before .before .before .before .before .before .args .bytes .now) (c .before .before .before .before .before .before .before .args .i) (c .before .before .before .before .before .before .before .args .words .now) (c .before .before .before .before .before .before .before .args .w) (c .before .before .before .before .before .before .before .args .pool .now) (c .before .before .before .before .before .before .before .args .p) (c .before .before .before .before .before .before .before .pre .1 .1 .0) (c .before .before .before .before .before .before .before .pre .1 .0 .word-in) (c .before .before .before .before .before .before .before .pre .1 .0 .pool-in) (laws.no-tag (c .before .before .before .before .before .before .before .args .bytes .now) (c .before .before .before .before .before .before .before .args .i) (c .before .before .before .before .before .before .before .args .words .now) (c .before .before .before .before .before .before .before .args .w) (c .before .before .before .before .before .before .before .args .pool .now) (c .before .before .before .before .before .before .before .args .p) _ _ _ _ _ (c .before .before .before .before .before .before .before .pre .1 .1 .1 .opens (c .before .if2 .left)) (c .if3 .taken))
+fill-group-returns-2 : fill-group-need fill-group-lts.Need-returns-2
+fill-group-returns-2 t c =
+    let i = c .before in
+    let s = i .before .before .before .before .before in
+    laws.no-tag (s .pre .1 .1 .0) (s .pre .1 .1 .1) (s .pre .1 .0 .pool-in) (laws.union-mark _ (s .pre .1 .1 .2) (i .if1 .left)) (c .if2 .taken)
 
-fill-group-fill-uint-requires : (t : ℕ) → fill-group-lts.Need-fill-uint-requires (fill-fields-below t, fill-fields.Post, put-pair-reads.Asked, put-pair-reads.Learnt, behind-reads.Asked, behind-reads.Learnt, fill-uint-reads.Asked, fill-uint-reads.Learnt) (fill-group-at t) fill-group.Post
+fill-group-fill-uint-requires : fill-group-need fill-group-lts.Need-fill-uint-requires
 fill-group-fill-uint-requires t c κs = search needs
 
-fill-group-fill-fields-requires-2 : (t : ℕ) → fill-group-lts.Need-fill-fields-requires-2 (fill-fields-below t, fill-fields.Post, put-pair-reads.Asked, put-pair-reads.Learnt, behind-reads.Asked, behind-reads.Learnt, fill-uint-reads.Asked, fill-uint-reads.Learnt) (fill-group-at t) fill-group.Post
+fill-group-fill-fields-requires-2 : fill-group-need fill-group-lts.Need-fill-fields-requires-2
 fill-group-fill-fields-requires-2 t c κs = search needs
 
-fill-group-behind-requires-2 : (t : ℕ) → fill-group-lts.Need-behind-requires-2 (fill-fields-below t, fill-fields.Post, put-pair-reads.Asked, put-pair-reads.Learnt, behind-reads.Asked, behind-reads.Learnt, fill-uint-reads.Asked, fill-uint-reads.Learnt) (fill-group-at t) fill-group.Post
+fill-group-behind-requires-2 : fill-group-need fill-group-lts.Need-behind-requires-2
 fill-group-behind-requires-2 t c κs = search needs
 
-fill-group-same-length-3 : (t : ℕ) → fill-group-lts.Need-same-length-3 (fill-fields-below t, fill-fields.Post, put-pair-reads.Asked, put-pair-reads.Learnt, behind-reads.Asked, behind-reads.Learnt, fill-uint-reads.Asked, fill-uint-reads.Learnt) (fill-group-at t) fill-group.Post
+fill-group-same-length-3 : fill-group-need fill-group-lts.Need-same-length-3
 fill-group-same-length-3 t c = search needs
 
-fill-group-same-length-4 : (t : ℕ) → fill-group-lts.Need-same-length-4 (fill-fields-below t, fill-fields.Post, put-pair-reads.Asked, put-pair-reads.Learnt, behind-reads.Asked, behind-reads.Learnt, fill-uint-reads.Asked, fill-uint-reads.Learnt) (fill-group-at t) fill-group.Post
+fill-group-same-length-4 : fill-group-need fill-group-lts.Need-same-length-4
 fill-group-same-length-4 t c = search needs
 
-fill-group-returns-4 : (t : ℕ) → fill-group-lts.Need-returns-4 (fill-fields-below t, fill-fields.Post, put-pair-reads.Asked, put-pair-reads.Learnt, behind-reads.Asked, behind-reads.Learnt, fill-uint-reads.Asked, fill-uint-reads.Learnt) (fill-group-at t) fill-group.Post
-fill-group-returns-4 t c = laws.union-filled (c .before .before .before .before .before .before .before .before .before .before .before .before .before .before .before .before .before .before .before .args .bytes .now) (c .before .before .before .before .before .before .before .before .before .before .before .before .before .before .before .before .before .before .before .args .i) (c .before .before .before .before .before .before .before .before .before .before .before .before .before .before .before .before .before .before .before .args .words .now) (c .before .before .before .before .before .before .before .before .before .before .before .before .before .before .before .before .before .before .before .args .w) (c .before .before .before .before .before .before .before .before .before .before .before .before .before .before .before .before .before .before .before .args .pool .now) (c .before .before .before .before .before .before .before .before .before .before .before .before .before .before .before .before .before .before .before .args .p) (c .before .before .before .before .before .before .before .before .before .before .before .before .before .before .before .before .before .before .before .pre .1 .1 .0) (omega (arith, c .before .before .before .before .before .before .before .before .before .before .before .before .before .before .before .if1 .left)) (c .before .before .before .before .before .fill-fields2 .result) _ _ _ (c .behind2 .ensures .0) (c .behind2 .ensures .1) (c .behind2 .ensures .2) (c .before .before .before .before .before .before .before .before .before .before .before .before .before .before .before .before .before .before .before .pre .1 .1 .1 .opens (c .before .before .before .before .before .before .before .before .before .before .before .before .before .if2 .left)) _ _ (c .before .before .before .before .before .before .before .before .before .before .fill-uint .ensures) (c .before .before .before .before .before .fill-fields2 .ensures)
+fill-group-returns-3 : fill-group-need fill-group-lts.Need-returns-3
+fill-group-returns-3 t c =
+    let f = c .before .before .before .before .before in
+    let d = f .before .before .before .before .before in
+    let i = d .before .before .before in
+    let s = i .before .before .before .before .before in
+    laws.union-filled (s .pre .1 .1 .0) (s .pre .1 .1 .1) (c .behind2 .ensures) (laws.union-mark _ (s .pre .1 .1 .2) (i .if1 .left)) (d .fill-uint .ensures) (f .fill-fields2 .ensures)
 
 pub +fill-fields+fill-group-spec : {M : Type 1} → statement M
-+fill-fields+fill-group-spec = close μ-fill-fields μ-fill-group (λ t. fill-fields-lts.spec (fill-plain-reads.Asked, fill-plain-reads.Learnt, fill-group-below t, fill-group.Post)
++fill-fields+fill-group-spec = close μ-fill-fields μ-fill-group (λ t. fill-fields-lts.spec (fill-fields-claims t)
     (fill-fields-at t)
     fill-fields.Post
     fill-fields-Inv-loop
     fill-fields-μ-loop
     (fill-fields-loop-holds t)
-    (fill-fields-fill-plain-requires t)
+    (fill-fields-fields-end-requires t)
+    (fill-fields-shared-slice-read-mark t)
+    (fill-fields-sub-if2 t)
+    (fill-fields-opens-group-requires t)
+    (fill-fields-fill-group-requires t)
+    (fill-fields-fill-leaf-requires t)
+    (fill-fields-add-pool-taken t)
+    (fill-fields-mul-pool-taken t)
+    (fill-fields-slice-read-pool-taken t)
+    (fill-fields-pool-taken-requires t)
+    (fill-fields-add-p1 t)
+    (fill-fields-add-w1 t)
+    (fill-fields-add-n t)
+    (fill-fields-loop-less t)
+    (fill-fields-loop-again t)
     (fill-fields-same-length t)
     (fill-fields-same-length-2 t)
     (fill-fields-returns t)
-    (fill-fields-shared-slice-read-if2 t)
     (fill-fields-same-length-3 t)
     (fill-fields-same-length-4 t)
-    (fill-fields-returns-2 t)
-    (fill-fields-fill-group-requires t)
-    (fill-fields-add-n t)
-    (fill-fields-loop-less t)
-    (fill-fields-loop-again t))
-    λ t. fill-group-lts.spec (
-      fill-fields-below t,
-      fill-fields.Post,
-      put-pair-reads.Asked,
-      put-pair-reads.Learnt,
-      behind-reads.Asked,
-      behind-reads.Learnt,
-      fill-uint-reads.Asked,
-      fill-uint-reads.Learnt,
-    )
+    (fill-fields-returns-2 t))
+    λ t. fill-group-lts.spec (fill-group-claims t)
     (fill-group-at t)
     fill-group.Post
     (fill-group-add-j t)
-    (fill-group-sub-if1 t)
-    (fill-group-returns t)
     (fill-group-add-inner t)
-    (fill-group-shared-slice-read-if2 t)
+    (fill-group-add-inside t)
+    (fill-group-shared-slice-read-if1 t)
     (fill-group-fill-fields-requires t)
     (fill-group-put-pair-requires t)
     (fill-group-behind-requires t)
     (fill-group-same-length t)
     (fill-group-same-length-2 t)
+    (fill-group-returns t)
     (fill-group-returns-2 t)
-    (fill-group-returns-3 t)
     (fill-group-fill-uint-requires t)
     (fill-group-fill-fields-requires-2 t)
     (fill-group-behind-requires-2 t)
     (fill-group-same-length-3 t)
     (fill-group-same-length-4 t)
-    (fill-group-returns-4 t)
+    (fill-group-returns-3 t)

@@ -1,4 +1,4 @@
--- `fill_bare` meets its contract.
+-- The fields of what the key decodes to are what its bytes hold at depth 0; the record's two words go before theirs.
 use native.Mathlib.Omega.{arith}
 use Rattle.format.proofs.SoundLaws.{all-bytes}
 use Rattle.fill.proofs.TopLaws as laws
@@ -19,10 +19,14 @@ same-length-2 : tie.Need-same-length-2
 same-length-2 c = search needs
 
 returns : tie.Need-returns
-returns c = let a = c .before .before .before .before .before .before .before .before .before .before .before .before .before .before .before .args in laws.bare-filled (a .bytes .now) (a .words .now) (a .pool .now) (c .before .before .before .before .before .before .before .before .fill-fields .result) _ _ _ (all-bytes (a .bytes .now) (λ i. omega (arith, c .before .before .before .before .before .before .before .before .before .before .before .before .before .before .shared-slice-known .given i))) (c .before .before .before .before .before .before .before .before .fill-fields .ensures) (c .before .before .put-pair .ensures)
+returns c =
+    let p = c .before .before in
+    let f = p .before .before .before .before .before .before in
+    let k = f .before .before .before .before .before .before in
+    laws.bare-filled (all-bytes (k .before .args .bytes .now) (λ i. omega (arith, k .shared-slice-known .given i))) (f .fill-fields .ensures) (p .put-pair .ensures)
 
 returns-2 : tie.Need-returns-2
-returns-2 c = let a = c .before .before .before .before .args in laws.bare-short (a .bytes .now) (a .words .now) (a .pool .now) (omega (arith, c .if1 .left))
+returns-2 c = laws.bare-short (omega (arith, c .if1 .left))
 
 pub fill-bare-spec : {M : Type 1} → statement M
 fill-bare-spec =

@@ -1,4 +1,4 @@
--- `fill_value` meets its contract.
+-- The value that the key decodes to is what its bytes hold at depth 0, as one field.
 use native.Mathlib.Omega.{arith}
 use Rattle.format.proofs.SoundLaws.{all-bytes}
 use Rattle.fill.proofs.TopLaws as laws
@@ -16,7 +16,10 @@ same-length-2 : tie.Need-same-length-2
 same-length-2 c = search needs
 
 returns : tie.Need-returns
-returns c = let a = c .before .before .before .before .before .before .before .before .before .before .args in laws.value-filled (a .bytes .now) (a .words .now) (a .pool .now) (c .before .before .before .before .fill-fields .result) _ _ (all-bytes (a .bytes .now) (λ i. omega (arith, c .before .before .before .before .before .before .before .before .before .shared-slice-known .given i))) (c .before .before .before .before .fill-fields .ensures)
+returns c =
+    let f = c .before .before .before .before in
+    let k = f .before .before .before .before .before in
+    laws.value-filled (all-bytes (k .before .args .bytes .now) (λ i. omega (arith, k .shared-slice-known .given i))) (f .fill-fields .ensures)
 
 pub fill-value-spec : {M : Type 1} → statement M
 fill-value-spec = tie.close (tie.spec fill-fields-requires same-length same-length-2 returns)

@@ -1,6 +1,6 @@
--- `fill_int` meets its contract.
-use Rattle.fill.proofs.LeafLaws as laws
+-- An integer is negative below mark 48, and unsigned from there on.
 use native.Mathlib.Omega.{arith}
+use Rattle.fill.proofs.NumberLaws as laws
 use borrow.Author.Needs.{needs}
 use Rattle.fill.proofs.leaves.fill_int.Statement.{statement}
 use Rattle.fill.proofs.leaves.fill_int.Tie as tie
@@ -24,7 +24,7 @@ same-length-2 : tie.Need-same-length-2
 same-length-2 c = search needs
 
 returns-2 : tie.Need-returns-2
-returns-2 c = laws.as-int (c .before .before .before .before .before .before .before .before .args .bytes .now) (c .before .before .before .before .before .before .before .before .args .i) (c .before .before .before .before .before .before .before .before .args .words .now) (c .before .before .before .before .before .before .before .before .args .w) (c .before .before .before .before .before .before .before .before .pre .0) _ _ (omega (arith, c .before .before .before .before .if1 .left)) (c .before .before .fill-uint .ensures)
+returns-2 c = let f = c .before .before in let i = f .before .before in laws.as-int (omega (arith, i .if1 .left)) (f .fill-uint .ensures)
 
 pub fill-int-spec : {M : Type 1} → statement M
 fill-int-spec =

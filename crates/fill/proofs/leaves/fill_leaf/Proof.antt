@@ -1,4 +1,4 @@
--- `fill_leaf` meets its contract.
+-- The mark tells the kind: the four ways out are the four kinds that are no groups.
 use Rattle.fill.proofs.LeafLaws as laws
 use borrow.Author.Needs.{needs}
 use Rattle.fill.proofs.leaves.fill_leaf.Statement.{statement}
@@ -17,7 +17,7 @@ same-length-2 : tie.Need-same-length-2
 same-length-2 c = search needs
 
 returns : tie.Need-returns
-returns c = laws.a-str (c .before .before .before .before .before .before .before .before .before .before .before .before .args .bytes .now) (c .before .before .before .before .before .before .before .before .before .before .before .before .args .i) (c .before .before .before .before .before .before .before .before .before .before .before .before .args .words .now) (c .before .before .before .before .before .before .before .before .before .before .before .before .args .w) (c .before .before .before .before .before .before .before .before .before .before .before .before .args .pool .now) (c .before .before .before .before .before .before .before .before .before .before .before .before .args .p) (c .before .before .before .before .before .before .before .before .before .before .before .before .pre .0 .2) _ _ _ (c .before .before .before .before .before .before .before .if1 .taken) (c .before .before .before .before .fill-run .ensures)
+returns c = let f = c .before .before .before .before in let i = f .before .before .before in laws.a-str (i .if1 .taken) (f .fill-run .ensures)
 
 fill-run-requires-2 : tie.Need-fill-run-requires-2
 fill-run-requires-2 c κs = search needs
@@ -29,7 +29,7 @@ same-length-4 : tie.Need-same-length-4
 same-length-4 c = search needs
 
 returns-2 : tie.Need-returns-2
-returns-2 c = laws.a-bytes (c .before .before .before .before .before .before .before .before .before .before .before .before .before .args .bytes .now) (c .before .before .before .before .before .before .before .before .before .before .before .before .before .args .i) (c .before .before .before .before .before .before .before .before .before .before .before .before .before .args .words .now) (c .before .before .before .before .before .before .before .before .before .before .before .before .before .args .w) (c .before .before .before .before .before .before .before .before .before .before .before .before .before .args .pool .now) (c .before .before .before .before .before .before .before .before .before .before .before .before .before .args .p) (c .before .before .before .before .before .before .before .before .before .before .before .before .before .pre .0 .2) _ _ _ (c .before .before .before .before .before .before .before .if2 .taken) (c .before .before .before .before .fill-run2 .ensures)
+returns-2 c = let f = c .before .before .before .before in let i = f .before .before .before in laws.a-bytes (i .if2 .taken) (f .fill-run2 .ensures)
 
 fill-ref-requires : tie.Need-fill-ref-requires
 fill-ref-requires c κs = search needs
@@ -38,7 +38,11 @@ same-length-5 : tie.Need-same-length-5
 same-length-5 c = search needs
 
 returns-3 : tie.Need-returns-3
-returns-3 c = laws.a-ref (c .before .before .before .before .before .before .before .before .before .before .before .args .bytes .now) (c .before .before .before .before .before .before .before .before .before .before .before .args .i) (c .before .before .before .before .before .before .before .before .before .before .before .args .words .now) (c .before .before .before .before .before .before .before .before .before .before .before .args .w) (c .before .before .before .before .before .before .before .before .before .before .before .args .pool .now) (c .before .before .before .before .before .before .before .before .before .before .before .args .p) (c .before .before .before .before .before .before .before .before .before .before .before .pre .0 .2) _ _ (c .before .before .before .before .if3 .taken) (c .before .before .fill-ref .ensures)
+returns-3 c =
+    let f = c .before .before in
+    let i = f .before .before in
+    let s = i .before .before .before .before .before .before .before in
+    laws.a-ref (s .pre .1) (s .pre .2) (i .if3 .taken) (f .fill-ref .ensures)
 
 fill-int-requires : tie.Need-fill-int-requires
 fill-int-requires c κs = search needs
@@ -47,7 +51,12 @@ same-length-6 : tie.Need-same-length-6
 same-length-6 c = search needs
 
 returns-4 : tie.Need-returns-4
-returns-4 c = laws.an-int (c .before .before .before .before .before .before .before .before .before .before .before .args .bytes .now) (c .before .before .before .before .before .before .before .before .before .before .before .args .i) (c .before .before .before .before .before .before .before .before .before .before .before .args .words .now) (c .before .before .before .before .before .before .before .before .before .before .before .args .w) (c .before .before .before .before .before .before .before .before .before .before .before .args .pool .now) (c .before .before .before .before .before .before .before .before .before .before .before .args .p) (c .before .before .before .before .before .before .before .before .before .before .before .pre .0 .2) _ _ (c .before .before .before .before .before .before .before .before .before .before .before .pre .1) (c .before .before .before .before .before .before .if1 .left) (c .before .before .before .before .before .if2 .left) (c .before .before .before .before .if3 .left) (c .before .before .fill-int .ensures)
+returns-4 c =
+    let f = c .before .before in
+    let i = f .before .before in
+    let j = i .before .before in
+    let s = j .before .before .before .before .before in
+    laws.an-int (s .pre .1) (s .pre .2) (j .if1 .left) (i .before .if2 .left) (i .if3 .left) (s .pre .3) (f .fill-int .ensures)
 
 pub fill-leaf-spec : {M : Type 1} → statement M
 fill-leaf-spec =

@@ -1,7 +1,6 @@
--- `fill_negative` meets its contract.
-use mathlib.Core.Path.{refl}
-use Rattle.fill.proofs.LeafLaws as laws
+-- A negative integer is what its bytes make less as many ones, by the width that its mark says.
 use native.Mathlib.Omega.{arith}
+use Rattle.fill.proofs.NumberLaws as laws
 use borrow.Author.Needs.{needs}
 use Rattle.fill.proofs.leaves.fill_negative.Statement.{statement}
 use Rattle.fill.proofs.leaves.fill_negative.Tie as tie
@@ -10,7 +9,7 @@ shared-slice-read-mark : tie.Need-shared-slice-read-mark
 shared-slice-read-mark c = search needs
 
 returns : tie.Need-returns
-returns c = laws.no-int (c .before .before .before .before .args .bytes .now) (c .before .before .before .before .args .i) (c .before .before .before .before .args .words .now) (c .before .before .before .before .args .w) (c .before .before .before .before .pre .0) (c .if1 .taken)
+returns c = let s = c .before .before .before .before in laws.no-int (s .pre .0) (c .if1 .taken)
 
 sub-k : tie.Need-sub-k
 sub-k c = search needs
@@ -22,7 +21,7 @@ sub-if2 : tie.Need-sub-if2
 sub-if2 c = search needs
 
 returns-2 : tie.Need-returns-2
-returns-2 c = laws.int-short (c .before .before .before .before .before .args .bytes .now) (c .before .before .before .before .before .args .i) (c .before .before .before .before .before .args .words .now) (c .before .before .before .before .before .args .w) (c .before .before .before .before .before .pre .0) (c .before .before .before .before .before .pre .2) _ refl (c .if2 .taken)
+returns-2 c = let s = c .before .before .before .before .before in laws.int-short (s .pre .0) (s .pre .2) (c .if2 .taken)
 
 add-j : tie.Need-add-j
 add-j c = search needs
@@ -52,7 +51,13 @@ same-length : tie.Need-same-length
 same-length c = search needs
 
 returns-3 : tie.Need-returns-3
-returns-3 c = laws.negative-filled (c .before .before .before .before .before .before .before .before .before .before .before .args .bytes .now) (c .before .before .before .before .before .before .before .before .before .before .before .args .i) (c .before .before .before .before .before .before .before .before .before .before .before .args .words .now) (c .before .before .before .before .before .before .before .before .before .before .before .args .w) (c .before .before .before .before .before .before .before .before .before .before .before .pre .1) _ _ _ _ refl (omega (arith, c .before .before .before .before .before .before .before .if1 .left)) (c .before .before .before .before .before .before .before .before .before .before .before .pre .2) (omega (arith, c .before .before .before .before .before .before .if2 .left)) (c .before .before .before .before .before .number-at .ensures) (omega arith) (c .before .before .before .before .wrapping-sub-u64 .ensures) (c .before .before .put-pair .ensures)
+returns-3 c =
+    let p = c .before .before in
+    let w = p .before .before in
+    let n = w .before in
+    let i = n .before in
+    let s = i .before .before .before .before .before in
+    laws.negative-filled (s .pre .1) (omega (arith, i .before .if1 .left)) (s .pre .2) (omega (arith, i .if2 .left)) (n .number-at .ensures) (omega arith) (w .wrapping-sub-u64 .ensures) (p .put-pair .ensures)
 
 pub fill-negative-spec : {M : Type 1} → statement M
 fill-negative-spec =

@@ -1,6 +1,6 @@
--- `fill_ref` meets its contract.
-use Rattle.fill.proofs.LeafLaws as laws
+-- A reference is the eight bytes behind its mark, where there are as many.
 use native.Mathlib.Omega.{arith}
+use Rattle.fill.proofs.NumberLaws as laws
 use borrow.Author.Needs.{needs}
 use Rattle.fill.proofs.leaves.fill_ref.Statement.{statement}
 use Rattle.fill.proofs.leaves.fill_ref.Tie as tie
@@ -12,7 +12,7 @@ sub-if1 : tie.Need-sub-if1
 sub-if1 c = search needs
 
 returns : tie.Need-returns
-returns c = laws.ref-not (c .before .before .before .args .bytes .now) (c .before .before .before .args .i) (c .before .before .before .args .words .now) (c .before .before .before .args .w) (c .before .before .before .pre .0) (c .if1 .taken)
+returns c = let s = c .before .before .before in laws.ref-not (s .pre .0) (c .if1 .taken)
 
 sub-read-number : tie.Need-sub-read-number
 sub-read-number c = search needs
@@ -36,7 +36,12 @@ same-length : tie.Need-same-length
 same-length c = search needs
 
 returns-2 : tie.Need-returns-2
-returns-2 c = laws.ref-filled (c .before .before .before .before .before .before .before .before .before .args .bytes .now) (c .before .before .before .before .before .before .before .before .before .args .i) (c .before .before .before .before .before .before .before .before .before .args .words .now) (c .before .before .before .before .before .before .before .before .before .args .w) (c .before .before .before .before .before .before .before .before .before .pre .1) _ _ (omega (arith, c .before .before .before .before .before .before .if1 .left)) (c .before .before .before .before .read-number .ensures .0) (c .before .before .put-pair .ensures)
+returns-2 c =
+    let p = c .before .before in
+    let n = p .before .before in
+    let i = n .before .before in
+    let s = i .before .before .before in
+    laws.ref-filled (s .pre .1) (omega (arith, i .if1 .left)) (n .read-number .ensures .0) (p .put-pair .ensures)
 
 pub fill-ref-spec : {M : Type 1} → statement M
 fill-ref-spec =

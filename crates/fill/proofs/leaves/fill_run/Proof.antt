@@ -1,6 +1,6 @@
--- `fill_run` meets its contract.
-use Rattle.fill.proofs.LeafLaws as laws
+-- A run is measured once: it ends, so that its payload is put where there is room, or it is no run, or has no room, and then the word is 0.
 use native.Mathlib.Omega.{arith}
+use Rattle.fill.proofs.RunLaws as laws
 use borrow.Author.Needs.{needs}
 use Rattle.fill.proofs.leaves.fill_run.Statement.{statement}
 use Rattle.fill.proofs.leaves.fill_run.Tie as tie
@@ -39,10 +39,20 @@ same-length : tie.Need-same-length
 same-length c = search needs
 
 returns : tie.Need-returns
-returns c = laws.run-short (c .before .before .before .before .before .before .before .before .before .before .before .before .before .args .bytes .now) (c .before .before .before .before .before .before .before .before .before .before .before .before .before .args .i) (c .before .before .before .before .before .before .before .before .before .before .before .before .before .pre .0) (c .before .before .before .before .before .before .before .before .before .before .before .before .before .args .words .now) (c .before .before .before .before .before .before .before .before .before .before .before .before .before .args .w) (c .before .before .before .before .before .before .before .before .before .before .before .before .before .args .kind) (c .before .before .before .before .before .before .before .before .before .before .before .before .before .pre .1) (c .before .before .before .before .before .before .before .before .before .before .before .before .before .args .pool .now) (c .before .before .before .before .before .before .before .before .before .before .before .before .before .args .p) (c .before .before .before .before .before .before .before .before .before .before .before .before .before .pre .2) (c .before .before .before .before .before .before .before .before .measure-run .result) (c .before .before .before .before .before .before .before .before .measure-run .ensures) _ _ (c .before .before .before .before .before .before .e .given .1) (c .before .before .before .before .if1 .taken) _ (c .before .before .put-pair2 .ensures)
+returns c =
+    let p = c .before .before in
+    let i = p .before .before in
+    let e = i .before .before in
+    let m = e .before .before in
+    let s = m .before .before .before .before .before in
+    laws.run-short (s .pre .0) (s .pre .1) (s .pre .2) (m .measure-run .ensures) (e .e .given .1) (i .if1 .taken) (p .put-pair2 .ensures)
 
 add-end : tie.Need-add-end
-add-end c = omega (arith, laws.run-in (c .before .before .before .before .before .before .before .before .before .args .bytes .now) (c .before .before .before .before .before .before .before .before .before .args .i) (c .before .before .before .before .before .before .before .before .before .pre .0) (c .before .before .before .before .before .before .before .before .before .args .words .now) (c .before .before .before .before .before .before .before .before .before .args .w) (c .before .before .before .before .before .before .before .before .before .args .kind) (c .before .before .before .before .before .before .before .before .before .pre .1) (c .before .before .before .before .before .before .before .before .before .args .pool .now) (c .before .before .before .before .before .before .before .before .before .args .p) (c .before .before .before .before .before .before .before .before .before .pre .2) (c .before .before .before .before .measure-run .result) (c .before .before .before .before .measure-run .ensures) _ _ (c .before .before .e .given .1))
+add-end c =
+    let e = c .before .before in
+    let m = e .before .before in
+    let a = m .before .before .before .before .before in
+    omega (arith, laws.run-in (a .args .bytes .now) (a .args .i) (m .measure-run .ensures) (e .e .given .1))
 
 put-pair-requires-3 : tie.Need-put-pair-requires-3
 put-pair-requires-3 c κs = search needs
@@ -54,19 +64,37 @@ part-payload-into-start : tie.Need-part-payload-into-start
 part-payload-into-start c = search needs
 
 part-payload-into-end : tie.Need-part-payload-into-end
-part-payload-into-end c = omega (arith, laws.run-in (c .before .before .before .before .before .before .before .before .before .before .before .before .before .args .bytes .now) (c .before .before .before .before .before .before .before .before .before .before .before .before .before .args .i) (c .before .before .before .before .before .before .before .before .before .before .before .before .before .pre .0) (c .before .before .before .before .before .before .before .before .before .before .before .before .before .args .words .now) (c .before .before .before .before .before .before .before .before .before .before .before .before .before .args .w) (c .before .before .before .before .before .before .before .before .before .before .before .before .before .args .kind) (c .before .before .before .before .before .before .before .before .before .before .before .before .before .pre .1) (c .before .before .before .before .before .before .before .before .before .before .before .before .before .args .pool .now) (c .before .before .before .before .before .before .before .before .before .before .before .before .before .args .p) (c .before .before .before .before .before .before .before .before .before .before .before .before .before .pre .2) (c .before .before .before .before .before .before .before .before .measure-run .result) (c .before .before .before .before .before .before .before .before .measure-run .ensures) _ _ (c .before .before .before .before .before .before .e .given .1))
+part-payload-into-end c =
+    let e = c .before .before .before .before .before .before in
+    let m = e .before .before in
+    let a = m .before .before .before .before .before in
+    omega (arith, laws.run-in (a .args .bytes .now) (a .args .i) (m .measure-run .ensures) (e .e .given .1))
 
 payload-into-requires : tie.Need-payload-into-requires
-payload-into-requires c κs = (laws.run-long (c .before .before .before .before .before .before .before .before .before .before .before .before .before .before .before .args .bytes .now) (c .before .before .before .before .before .before .before .before .before .before .before .before .before .before .before .args .i) (c .before .before .before .before .before .before .before .before .before .before .before .before .before .before .before .pre .0) (c .before .before .before .before .before .before .before .before .before .before .before .before .before .before .before .args .words .now) (c .before .before .before .before .before .before .before .before .before .before .before .before .before .before .before .args .w) (c .before .before .before .before .before .before .before .before .before .before .before .before .before .before .before .args .kind) (c .before .before .before .before .before .before .before .before .before .before .before .before .before .before .before .pre .1) (c .before .before .before .before .before .before .before .before .before .before .before .before .before .before .before .args .pool .now) (c .before .before .before .before .before .before .before .before .before .before .before .before .before .before .before .args .p) (c .before .before .before .before .before .before .before .before .before .before .before .before .before .before .before .pre .2) (c .before .before .before .before .before .before .before .before .before .before .measure-run .result) (c .before .before .before .before .before .before .before .before .before .before .measure-run .ensures) _ _ (c .before .before .before .before .before .before .before .before .e .given .1), omega (arith, c .before .before .before .before .before .before .if1 .left, c .before .before .before .before .before .before .before .before .before .before .before .before .before .before .before .pre .2))
+payload-into-requires c κs =
+    let i = c .before .before .before .before .before .before in
+    let e = i .before .before in
+    let m = e .before .before in
+    let a = m .before .before .before .before .before in
+    (laws.run-long (a .args .bytes .now) (a .args .i) (m .measure-run .ensures) (e .e .given .1), omega (arith, i .if1 .left, a .pre .2))
 
 add-result : tie.Need-add-result
-add-result c = omega (arith, laws.run-in (c .before .before .before .before .before .before .before .before .before .before .before .before .before .before .before .before .before .before .args .bytes .now) (c .before .before .before .before .before .before .before .before .before .before .before .before .before .before .before .before .before .before .args .i) (c .before .before .before .before .before .before .before .before .before .before .before .before .before .before .before .before .before .before .pre .0) (c .before .before .before .before .before .before .before .before .before .before .before .before .before .before .before .before .before .before .args .words .now) (c .before .before .before .before .before .before .before .before .before .before .before .before .before .before .before .before .before .before .args .w) (c .before .before .before .before .before .before .before .before .before .before .before .before .before .before .before .before .before .before .args .kind) (c .before .before .before .before .before .before .before .before .before .before .before .before .before .before .before .before .before .before .pre .1) (c .before .before .before .before .before .before .before .before .before .before .before .before .before .before .before .before .before .before .args .pool .now) (c .before .before .before .before .before .before .before .before .before .before .before .before .before .before .before .before .before .before .args .p) (c .before .before .before .before .before .before .before .before .before .before .before .before .before .before .before .before .before .before .pre .2) (c .before .before .before .before .before .before .before .before .before .before .before .before .before .measure-run .result) (c .before .before .before .before .before .before .before .before .before .before .before .before .before .measure-run .ensures) _ _ (c .before .before .before .before .before .before .before .before .before .before .before .e .given .1))
+add-result c =
+    let e = c .before .before .before .before .before .before .before .before .before .before .before in
+    let m = e .before .before in
+    let a = m .before .before .before .before .before in
+    omega (arith, laws.run-in (a .args .bytes .now) (a .args .i) (m .measure-run .ensures) (e .e .given .1))
 
 same-length-2 : tie.Need-same-length-2
 same-length-2 c = search needs
 
 returns-2 : tie.Need-returns-2
-returns-2 c = laws.run-not (c .before .before .before .before .before .before .before .before .before .before .before .args .bytes .now) (c .before .before .before .before .before .before .before .before .before .before .before .args .i) (c .before .before .before .before .before .before .before .before .before .before .before .pre .0) (c .before .before .before .before .before .before .before .before .before .before .before .args .words .now) (c .before .before .before .before .before .before .before .before .before .before .before .args .w) (c .before .before .before .before .before .before .before .before .before .before .before .args .kind) (c .before .before .before .before .before .before .before .before .before .before .before .pre .1) (c .before .before .before .before .before .before .before .before .before .before .before .args .pool .now) (c .before .before .before .before .before .before .before .before .before .before .before .args .p) (c .before .before .before .before .before .before .before .before .before .before .before .pre .2) (c .before .before .before .before .before .before .measure-run .result) (c .before .before .before .before .before .before .measure-run .ensures) _ (c .before .before .put-pair .ensures) (c .before .before .before .before .enum-told .given .1)
+returns-2 c =
+    let p = c .before .before in
+    let e = p .before .before in
+    let m = e .before .before in
+    let s = m .before .before .before .before .before in
+    laws.run-not (s .pre .0) (s .pre .1) (s .pre .2) (m .measure-run .ensures) (e .enum-told .given .1) (p .put-pair .ensures)
 
 same-length-3 : tie.Need-same-length-3
 same-length-3 c = search needs
@@ -75,7 +103,14 @@ same-length-4 : tie.Need-same-length-4
 same-length-4 c = search needs
 
 returns-3 : tie.Need-returns-3
-returns-3 c = laws.run-filled (c .before .before .before .before .before .before .before .before .before .before .before .before .before .before .before .before .before .before .args .bytes .now) (c .before .before .before .before .before .before .before .before .before .before .before .before .before .before .before .before .before .before .args .i) (c .before .before .before .before .before .before .before .before .before .before .before .before .before .before .before .before .before .before .pre .0) (c .before .before .before .before .before .before .before .before .before .before .before .before .before .before .before .before .before .before .args .words .now) (c .before .before .before .before .before .before .before .before .before .before .before .before .before .before .before .before .before .before .args .w) (c .before .before .before .before .before .before .before .before .before .before .before .before .before .before .before .before .before .before .args .kind) (c .before .before .before .before .before .before .before .before .before .before .before .before .before .before .before .before .before .before .pre .1) (c .before .before .before .before .before .before .before .before .before .before .before .before .before .before .before .before .before .before .args .pool .now) (c .before .before .before .before .before .before .before .before .before .before .before .before .before .before .before .before .before .before .args .p) (c .before .before .before .before .before .before .before .before .before .before .before .before .before .before .before .before .before .before .pre .2) (c .before .before .before .before .before .before .before .before .before .before .before .before .before .measure-run .result) (c .before .before .before .before .before .before .before .before .before .before .before .before .before .measure-run .ensures) _ _ (c .before .before .before .before .before .before .before .before .before .before .before .e .given .1) _ _ (omega (arith, c .before .before .before .before .before .before .before .before .before .if1 .left)) (c .before .before .before .before .before .before .before .put-pair3 .ensures) (c .before .before .payload-into .ensures)
+returns-3 c =
+    let b = c .before .before in
+    let p = b .before .before .before .before .before in
+    let i = p .before .before in
+    let e = i .before .before in
+    let m = e .before .before in
+    let s = m .before .before .before .before .before in
+    laws.run-filled (s .pre .0) (s .pre .1) (s .pre .2) (m .measure-run .ensures) (e .e .given .1) (omega (arith, i .if1 .left)) (p .put-pair3 .ensures) (b .payload-into .ensures)
 
 pub fill-run-spec : {M : Type 1} → statement M
 fill-run-spec =

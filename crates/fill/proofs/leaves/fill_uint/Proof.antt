@@ -1,5 +1,5 @@
--- `fill_uint` meets its contract.
-use Rattle.fill.proofs.LeafLaws as laws
+-- An unsigned integer is as many bytes behind its mark as the mark says.
+use Rattle.fill.proofs.NumberLaws as laws
 use borrow.Author.Needs.{needs}
 use Rattle.fill.proofs.leaves.fill_uint.Statement.{statement}
 use Rattle.fill.proofs.leaves.fill_uint.Tie as tie
@@ -23,7 +23,12 @@ same-length : tie.Need-same-length
 same-length c = search needs
 
 returns : tie.Need-returns
-returns c = laws.uint-filled (c .before .before .before .before .before .before .before .before .args .bytes .now) (c .before .before .before .before .before .before .before .before .args .i) (c .before .before .before .before .before .before .before .before .args .words .now) (c .before .before .before .before .before .before .before .before .args .w) (c .before .before .before .before .before .before .before .before .pre .1) _ (c .before .before .before .before .before .before .before .before .args .kind) _ _ (c .before .before .before .before .before .width-at .ensures) (c .before .before .before .before .number-at .ensures) (c .before .before .put-pair .ensures)
+returns c =
+    let p = c .before .before in
+    let n = p .before .before in
+    let d = n .before in
+    let s = d .before .before .before in
+    laws.uint-filled (s .pre .1) (d .width-at .ensures) (n .number-at .ensures) (p .put-pair .ensures)
 
 pub fill-uint-spec : {M : Type 1} → statement M
 fill-uint-spec =

@@ -1,6 +1,6 @@
--- `number_at` meets its contract.
-use Rattle.fill.proofs.LeafLaws as laws
+-- k bytes as a number: k of them, or the upper k of eight.
 use native.Mathlib.Omega.{arith}
+use Rattle.fill.proofs.NumberLaws as laws
 use borrow.Author.Needs.{needs}
 use Rattle.fill.proofs.leaves.number_at.Statement.{statement}
 use Rattle.fill.proofs.leaves.number_at.Tie as tie
@@ -21,10 +21,10 @@ read-number-requires : tie.Need-read-number-requires
 read-number-requires c κs = search needs
 
 returns : tie.Need-returns
-returns c = laws.number-is (c .before .before .before .before .args .bytes .now) (c .before .before .before .before .args .j) (c .before .before .before .before .args .k) _ (c .read-number .ensures .0)
+returns c = let a = c .before .before .before .before in laws.number-is (a .args .bytes .now) (a .args .j) (a .args .k) (c .read-number .ensures .0)
 
 returns-2 : tie.Need-returns-2
-returns-2 c = laws.number-none (c .before .before .before .args .bytes .now) (c .before .before .before .args .j) (c .before .before .before .args .k) (c .if2 .taken)
+returns-2 c = let a = c .before .before .before in laws.number-none (a .args .bytes .now) (a .args .j) (a .args .k) (c .if2 .taken)
 
 sub-read-number-2 : tie.Need-sub-read-number-2
 sub-read-number-2 c = search needs
@@ -48,7 +48,10 @@ shr-result : tie.Need-shr-result
 shr-result c = search needs
 
 returns-3 : tie.Need-returns-3
-returns-3 c = laws.number-shifted (c .before .before .before .before .before .args .bytes .now) (c .before .before .before .before .before .args .j) (c .before .before .before .before .before .args .k) (λ i. omega (arith, c .before .before .before .before .shared-slice-known .given i)) (c .before .before .before .before .before .pre .0) (omega (arith, c .before .before .before .if1 .left)) _ (c .read-number2 .ensures .0)
+returns-3 c =
+    let i = c .before .before .before in
+    let a = i .before .before in
+    laws.number-shifted (a .args .bytes .now) (a .args .j) (a .args .k) (λ k. omega (arith, i .before .shared-slice-known .given k)) (a .pre .0) (omega (arith, i .if1 .left)) (c .read-number2 .ensures .0)
 
 pub number-at-spec : {M : Type 1} → statement M
 number-at-spec =

@@ -1,4 +1,4 @@
--- `put_pair` meets its contract.
+-- Two stores side by side are one put of two words.
 use lib.ListN.{length-set}
 use Rattle.fill.proofs.PlaceLaws as places
 use native.Mathlib.Omega.{arith}
