@@ -1,187 +1,183 @@
--- From the walks' answers to those of the two passes: over a whole value, and over a key.
-use mathlib.Core.Path.{_≡_, refl, sym, ap, _∙_}
+-- What the walks over admitted sheets say of a whole value, and of a key: a record's fields bare, any other type as a whole.
+use mathlib.Core.Path.{_≡_, refl, sym, ap, _∙_, subst}
+use mathlib.Core.Bool.{Bool, true, false, not}
 use mathlib.Core.List.{List}
 use Prim.Native.Nat.{ℕ, _≤_, _<_}
 use native.Mathlib.Omega.{arith}
-use borrow.Author.Tests.{eq-eqb, ne-eqb}
+use borrow.Author.Tests.{eq-eqb, ne-eqb, eqb-true, eqb-false, not-true, not-false}
 use lib.Dec.{eqb}
-use lib.ListN.{length, getD, drop}
-use Rattle.format.specs.Answer.{if, Answer, ok, refused, andThen}
-use Rattle.format.specs.Tree.{Ty, Tys, Val, Vals, valKind, fieldsIn}
+use lib.ListN.{length, getD}
+use Rattle.format.specs.Answer.{if, Answer, ok, refused, andThen, BadRecord, TypeMismatch}
+use Rattle.format.specs.Tree.{Ty, Val, valKind, fieldsIn}
 use Rattle.format.specs.Sheet.{fieldCount, valCount}
 use Rattle.format.specs.TypeSheet as types
+use Rattle.format.specs.TypeSheet.{typeOf, isSome}
 use Rattle.format.specs.ValueSheet as values
+use Rattle.format.specs.ValueSheet.{valueOf}
 use Rattle.format.specs.Encode.{valBytes, valsBytes, fits, fitsAll, ofKind, encode, encodeTyped, keyBytes, fine}
 use Rattle.format.specs.Fields.{put}
+use Rattle.format.proofs.TypeLaws as type-laws
+use Rattle.format.proofs.ValueLaws as value-laws
 use Rattle.format.proofs.TypePlaces as type-places
-use Rattle.format.proofs.TypePlaces.{tyKind}
 use Rattle.format.proofs.ValuePlaces as value-places
+use Rattle.format.proofs.TypeKinds as types-here
+use Rattle.format.proofs.ValueKinds as values-here
+use Rattle.format.proofs.FitLaws.{clash}
 use Rattle.format.proofs.Tests.{eqb-test, passed}
-use Rattle.format.proofs.KindLaws.{built}
-use Rattle.format.proofs.FitLaws.{of-value, clash}
-use Rattle.format.proofs.EncodePlaces.{RecordType, record-type, RecordValue, record-value}
+use Rattle.fit.specs.declared.Fitted.{Fitted}
+use Rattle.fit.specs.declared.Fitted.the-variants.{Fits, Refused}
 use Rattle.fit.specs.Fit as fit
-use Rattle.fit.specs.Sum.{sumLen}
-use Rattle.fit.proofs.Steps.{bad}
-use Rattle.fit.proofs.Sums.{whole-sum, fields-sum}
+use Rattle.fit.proofs.Steps as fit-laws
 use Rattle.write.specs.declared.Put.{Put}
 use Rattle.write.specs.Write as write
-use Rattle.encode.specs.Encoded.{Judges, KeyLen, PutKey}
+use Rattle.encode.specs.Encoded.{sizeIn, sized, keyOf, Sheets, PutKey}
+
+-- ---- the type and the value of admitted sheets
+
+pub sheets : (ty words pool : List ℕ) (r q : Bool) → r ≡ isSome (typeOf ty) → not r ≡ false → q ≡ isSome (valueOf words pool) → not q ≡ false → Sheets ty words pool
+sheets ty words pool r q e h g k =
+    let t = type-laws.some-of (typeOf ty) (sym e ∙ not-false r h) in
+    let v = type-laws.some-of (valueOf words pool) (sym g ∙ not-false q k) in
+    record { t = t .0; v = v .0; is-type = t .1; is-value = v .1 }
 
 -- ---- answers
-
-judges : (a : Answer Unit) (e f r : ℕ) (bs : List ℕ) → fit.Gives a e f r → Judges (andThen a (λ u. ok bs)) r
-judges (ok u) e f r bs s = s .low
-judges (refused m d) e f r bs s = s
 
 -- nothing refused, and this is the answer
 accepted : (a : Answer Unit) (z x : List ℕ) → andThen a (λ u. ok z) ≡ ok x → (a ≡ fine) × (z ≡ x)
 accepted (ok u) z x e = (refl, cc)
 accepted (refused n d) z x e = clash e
 
--- ---- a whole value
+measured : {a : Answer Unit} {asked : Bool} {e f g n : ℕ} (r : Fitted) (bs : List ℕ) → n ≡ length bs → fit.Says a asked e f g n r → sizeIn r ≡ sized (andThen a (λ u. ok bs))
+measured (Fits at word pool len) bs q s = rw (← s .answer) (ap ok (s .ends .3 ∙ q))
+measured (Refused n d) bs q s = rw (← s .answer)
 
-pub whole-judge : (ty words pool : List ℕ) (r : ℕ) → fit.One ty words 0 (length ty) 0 0 r → (t : Ty) (v : Val) → types.Admitted ty t → values.Admitted words pool v → Judges (encodeTyped t v) r
-unfolding encode
-whole-judge ty words pool r one t v a b =
-    judges (fits t 0 v) _ _ r (valBytes 0 v) (one .one t v pool 0 _ _ _ (type-places.top ty t a) (λ z. refl) (a .deep) (value-places.top words pool v b) (b .proper))
+module _ {ty words pool : List ℕ} (s : Sheets ty words pool) where
+  value : values.Admitted words pool (s .v)
+  value = value-laws.admitted words pool (s .v) .0 (s .is-value)
 
-pub whole-long : (words pool : List ℕ) (t : Ty) (v : Val) (bs : List ℕ) → values.Admitted words pool v → encodeTyped t v ≡ ok bs → sumLen (drop 0 words) pool ≡ length bs
-unfolding encode
-whole-long words pool t v bs b e =
-    let q = accepted (fits t 0 v) (valBytes 0 v) bs e in
-    whole-sum words pool t 0 v (value-places.top words pool v b) (q .0) ∙ ap length (q .1)
+  type : types.Admitted ty (s .t)
+  type = type-laws.admitted ty (s .t) .0 (s .is-type)
 
-pub whole-write : (words pool l : List ℕ) (r : Put) (l′ : List ℕ) → write.One words pool 0 0 0 l r l′ → (t : Ty) (v : Val) (bs : List ℕ) → values.Admitted words pool v → encodeTyped t v ≡ ok bs → length bs ≤ length l → l′ ≡ put l 0 bs
-unfolding encode
-whole-write words pool l r l′ one t v bs b e room =
-    let q = accepted (fits t 0 v) (valBytes 0 v) bs e in
-    rw (q .1) at (one .one t 0 v _ _ (q .0) (value-places.top words pool v b) (rw (q .1) (omega arith)) .wrote)
+  pair : fit.Pair ty words pool 0 0 0 (s .t) (s .v) (length ty) (length words) (length pool)
+  pair = record { type = type-places.top ty (s .t) type; deep = type .deep; value = value-places.top words pool (s .v) value }
 
--- ---- which key is bare
+  pub stands : fit.Standing ty words pool 0 0 0
+  stands =
+      record {
+        T = s .t;
+        v = s .v;
+        e = length ty;
+        f = length words;
+        g = length pool;
+        here = pair;
+        few = value .long;
+        small = value .large;
+      }
 
--- any type but a record's has its whole value as key
-whole-key : (t : Ty) (v : Val) → (tyKind t ≡ 5 → ⊥) → encodeTyped t v ≡ keyBytes t v
-unfolding keyBytes
-whole-key Ty.Int v h = refl
-whole-key Ty.Str v h = refl
-whole-key Ty.Bytes v h = refl
-whole-key (Ty.Ref p) v h = refl
-whole-key (Ty.Record ts) v h = absurd (h refl)
-whole-key (Ty.Union us) v h = refl
+  pub key-is : keyOf ty words pool ≡ keyBytes (s .t) (s .v)
+  key-is = rw (s .is-type, s .is-value)
 
-on-record : (P : Ty → Type 0) (t : Ty) → tyKind t ≡ 5 → ((ts : Tys) → P (Ty.Record ts)) → P t
-on-record P Ty.Int e h = absurd (omega arith)
-on-record P Ty.Str e h = absurd (omega arith)
-on-record P Ty.Bytes e h = absurd (omega arith)
-on-record P (Ty.Ref p) e h = absurd (omega arith)
-on-record P (Ty.Record ts) e h = h ts
-on-record P (Ty.Union us) e h = absurd (omega arith)
+  -- ---- a whole value
 
-module _ (ty words pool : List ℕ) where
-  kind-of : (t : Ty) → types.Admitted ty t → getD ty 0 0 ≡ tyKind t
-  kind-of t a = type-places.kind-is ty 0 (length ty) t (type-places.top ty t a) .1
+  pub whole-measured : {asked : Bool} {r : Fitted} → fit.FitValue ty words pool 0 0 0 0 asked r → sizeIn r ≡ sized (encodeTyped (s .t) (s .v))
+  unfolding encode
+  whole-measured {asked} {r} i = measured r (valBytes 0 (s .v)) refl (i .says (s .t) (s .v) _ _ _ pair)
 
-  value-kind : (v : Val) → values.Admitted words pool v → (0 < length words) × (getD words 0 0 ≡ valKind v)
-  value-kind v b = value-places.kind-is words pool 0 0 (length words) (length pool) v (value-places.top words pool v b)
+  pub whole-written : {l l′ : List ℕ} {p : Put} → write.WroteValue words pool (write.standing 0 0 0) 0 l p l′ → (bs : List ℕ) → encodeTyped (s .t) (s .v) ≡ ok bs → length bs ≤ length l → l′ ≡ put l 0 bs
+  unfolding encode
+  whole-written i bs e room =
+      let q = accepted (fits (s .t) 0 (s .v)) (valBytes 0 (s .v)) bs e in
+      rw (q .1) at (i .says .one (s .t) (s .v) _ _ (q .0) (value .proper) (pair .value) (rw (q .1) (omega arith)) .wrote)
 
-  record-at : (ts : Tys) → types.Admitted ty (Ty.Record ts) → RecordType ty 0 (length ty) ts
-  record-at ts a = record-type ty 0 (length ty) ts (type-places.top ty (Ty.Record ts) a)
+  -- ---- a key that is no record's
 
-  fields-at : (vs : Vals) → values.Admitted words pool (Val.Record vs) → RecordValue words pool 0 0 (length words) (length pool) vs
-  fields-at vs b = record-value words pool 0 0 (length words) (length pool) vs (value-places.top words pool (Val.Record vs) b)
+  module _ {r : Bool} (is : r ≡ eqb (getD ty 0 0) 5) (no : not r ≡ true) where
+    whole : getD ty 0 0 ≡ 5 → ⊥
+    whole = eqb-false (getD ty 0 0) 5 (sym is ∙ not-true r no)
 
-  -- a type that is no record
-  abbrev pub Whole : Type 0
-  Whole = (t : Ty) → types.Admitted ty t → tyKind t ≡ 5 → ⊥
+    whole-key : keyOf ty words pool ≡ encodeTyped (s .t) (s .v)
+    whole-key = key-is ∙ types-here.no-record (s .t) (λ z. whole (type-places.kind-is ty 0 _ (s .t) (pair .type) .1 ∙ z)) .bytes (s .v)
 
-  pub whole-short : length ty < 2 → Whole
-  whole-short h t a e = on-record (λ (s : Ty). types.Admitted ty s → ⊥) t e (λ ts b. omega (arith, record-at ts b .inside)) a
+    pub key-whole : {asked : Bool} {f : Fitted} → fit.FitValue ty words pool 0 0 0 0 asked f → sizeIn f ≡ sized (keyOf ty words pool)
+    key-whole i = whole-measured i ∙ ap sized (sym whole-key)
 
-  pub whole-kind : (getD ty 0 0 ≡ 5 → ⊥) → Whole
-  whole-kind h t a e = h (kind-of t a ∙ e)
-
-  -- what a judgement says of the sheets
-  abbrev pub Judged : (r : ℕ) → Type 0
-  Judged r = (t : Ty) (v : Val) → types.Admitted ty t → values.Admitted words pool v → Judges (keyBytes t v) r
-
-  pub key-whole : (r : ℕ) → Whole → fit.One ty words 0 (length ty) 0 0 r → Judged r
-  key-whole r h one t v a b = rw (← whole-key t v (h t a)) (whole-judge ty words pool r one t v a b)
-
-  pub long-whole : (n : ℕ) → Whole → n ≡ sumLen (drop 0 words) pool → KeyLen ty words pool n
-  long-whole n h e = record { long = λ t v bs a b k. e ∙ whole-long words pool t v bs b (whole-key t v (h t a) ∙ k) }
-
-  pub put-whole : (l : List ℕ) (r : Put) (l′ : List ℕ) → Whole → write.One words pool 0 0 0 l r l′ → PutKey ty words pool l l′
-  put-whole l r l′ h one = record { wrote = λ t v bs a b e room. whole-write words pool l r l′ one t v bs b (whole-key t v (h t a) ∙ e) room }
+    pub put-whole : {l l′ : List ℕ} {p : Put} → write.WroteValue words pool (write.standing 0 0 0) 0 l p l′ → PutKey ty words pool l l′
+    put-whole i = record { wrote = λ bs e room. whole-written i bs (sym whole-key ∙ e) room }
 
   -- ---- a record's key
 
-  module _ (five : getD ty 0 0 ≡ 5) where
-    by-record : (r : ℕ) → ((ts : Tys) (v : Val) → types.Admitted ty (Ty.Record ts) → values.Admitted words pool v → Judges (keyBytes (Ty.Record ts) v) r) → Judged r
-    by-record r h t v a b = on-record (λ (s : Ty). types.Admitted ty s → Judges (keyBytes s v) r) t (sym (kind-of t a) ∙ five) (λ ts c. h ts v c b) a
+  module _ {r : Bool} (is : r ≡ eqb (getD ty 0 0) 5) (yes : not r ≡ false) where
+    bare : getD ty 0 0 ≡ 5
+    bare = eqb-true (getD ty 0 0) 5 (sym is ∙ not-false r yes)
 
-    -- only Null has fewer than two words
-    pub key-null : (r : ℕ) → length words < 2 → fit.Refuses 11 5 r → Judged r
-    unfolding keyBytes built
-    key-null r h s = by-record r (λ ts v a b.
-        rw (ne-eqb (valKind v) 5 (λ z. of-value (λ (u : Val). values.Admitted words pool u → ⊥) 5 v z (λ c. omega (arith, fields-at (fieldsIn v) c .inside)) b)) (bad 11 5 5 r s refl (omega arith)))
+    abbrev top : types-here.RecordHere ty 0 (s .t) (length ty)
+    top = types-here.record-here (s .t) (pair .type) bare
 
-    pub key-kind : (r : ℕ) → (getD words 0 0 ≡ 5 → ⊥) → fit.Refuses 11 5 r → Judged r
+    key-bare : keyOf ty words pool ≡ keyBytes (Ty.Record (top .ts)) (s .v)
+    key-bare = key-is ∙ ap (λ (t : Ty). keyBytes t (s .v)) (top .is)
+
+    pub type-second : 1 < length ty
+    type-second = top .second
+
+    pub key-kind : (getD words 0 0 ≡ 5 → ⊥) → refused TypeMismatch 5 ≡ sized (keyOf ty words pool)
     unfolding keyBytes
-    key-kind r h s = by-record r (λ ts v a b. rw (ne-eqb (valKind v) 5 (λ z. h (value-kind v b .1 ∙ z))) (bad 11 5 5 r s refl (omega arith)))
+    key-kind h =
+        let k = value-places.kind-is words pool 0 0 _ _ (s .v) (pair .value) .1 in
+        rw (key-bare, ne-eqb (valKind (s .v)) 5 (λ z. h (k ∙ z)))
 
-    module _ (five′ : getD words 0 0 ≡ 5) where
-      both : (r : ℕ) → ((ts : Tys) (vs : Vals) → types.Admitted ty (Ty.Record ts) → values.Admitted words pool (Val.Record vs) → Judges (keyBytes (Ty.Record ts) (Val.Record vs)) r) → Judged r
-      unfolding built
-      both r h = by-record r (λ ts v a b.
-          of-value (λ (u : Val). values.Admitted words pool u → Judges (keyBytes (Ty.Record ts) u) r) 5 v (sym (value-kind v b .1) ∙ five′) (λ c. h ts (fieldsIn v) a c) b)
+    pub value-second : getD words 0 0 ≡ 5 → 1 < length words
+    value-second kind = fit-laws.word-second stands (kind ∙ sym bare)
 
-      module _ (n : ℕ) (kn : n ≡ getD ty 1 0) where
-        pub key-count : (r : ℕ) → (getD words 1 0 ≡ n → ⊥) → fit.Refuses 6 0 r → Judged r
+    module _ (kind : getD words 0 0 ≡ 5) where
+      abbrev val : values-here.RecordHere words pool 0 0 (s .v) (length words) (length pool)
+      val = values-here.record-here (s .v) (pair .value) kind
+
+      key-fields : keyOf ty words pool ≡ keyBytes (Ty.Record (top .ts)) (Val.Record (val .vs))
+      key-fields = key-bare ∙ ap (keyBytes (Ty.Record (top .ts))) (val .is)
+
+      pub key-count : (n : ℕ) → n ≡ getD ty 1 0 → (getD words 1 0 ≡ n → ⊥) → refused BadRecord 0 ≡ sized (keyOf ty words pool)
+      unfolding keyBytes
+      key-count n q h = rw (key-fields, ne-eqb (fieldCount (top .ts)) (valCount (val .vs)) (λ z. h (val .count ∙ sym z ∙ sym (top .count) ∙ sym q)))
+
+      module _ (n : ℕ) (is-n : n ≡ getD ty 1 0) (same : getD words 1 0 ≡ n) where
+        count : getD words 1 0 ≡ getD ty 1 0
+        count = same ∙ is-n
+
+        pub fields-stand : fit.StandingRow ty words pool 2 2 0 (getD ty 1 0)
+        fields-stand = fit-laws.fields-stand stands (kind ∙ sym bare) bare count
+
+        pub key-measured : {asked : Bool} {f : Fitted} → fit.FitFields ty words pool 2 2 0 (getD ty 1 0) 0 asked f → sizeIn f ≡ sized (keyOf ty words pool)
         unfolding keyBytes
-        key-count r h s = both r (λ ts vs a b.
-            rw (ne-eqb (fieldCount ts) (valCount vs) (λ z. h (fields-at vs b .count ∙ sym z ∙ sym (record-at ts a .count) ∙ sym kn))) (bad 6 0 0 r s refl (omega arith)))
-
-        pub key-fields : (r : ℕ) → getD words 1 0 ≡ n → fit.Row ty words 0 (length ty) n 2 2 r → Judged r
-        unfolding keyBytes types.nesting values.Proper
-        key-fields r h row = both r (λ ts vs a b.
-            let c = record-at ts a in
-            let d = fields-at vs b in
-            let i : n ≡ fieldCount ts = kn ∙ c .count in
-            let j : n ≡ valCount vs = sym h ∙ d .count in
-            rw (eq-eqb (fieldCount ts) (valCount vs) (sym i ∙ j))
-            (judges (fitsAll ts 0 vs) _ _ r (valsBytes 0 vs) (row .row ts vs pool 0 _ _ _ i j (c .fields) (λ z. refl) (omega (arith, a .deep)) (d .fields) (b .proper))))
+        key-measured {asked} {f} i =
+            let d = type .deep in
+            let row : fit.Row ty words pool 2 2 0 (getD ty 1 0) (top .ts) (val .vs) (length ty) (length words) (length pool) =
+            record { types = top .fields; deep = omega (arith, top .deep); values = val .fields; count = sym (top .count); same = sym (val .count) ∙ count } in
+            rw (key-fields, eq-eqb (fieldCount (top .ts)) (valCount (val .vs)) (sym (top .count) ∙ sym count ∙ val .count))
+            (measured f (valsBytes 0 (val .vs)) refl (i .says (top .ts) (val .vs) _ _ _ row))
 
     -- what an accepted key says of its value
-    parts : (ts : Tys) (v : Val) (bs : List ℕ) → keyBytes (Ty.Record ts) v ≡ ok bs → (valKind v ≡ 5) × (fitsAll ts 0 (fieldsIn v) ≡ fine) × (valsBytes 0 (fieldsIn v) ≡ bs)
+    parts : (v : Val) (bs : List ℕ) → keyBytes (Ty.Record (top .ts)) v ≡ ok bs → (valKind v ≡ 5) × (fitsAll (top .ts) 0 (fieldsIn v) ≡ fine) × (valsBytes 0 (fieldsIn v) ≡ bs)
     unfolding keyBytes
-    parts ts v bs e =
-        let q = accepted (ofKind 5 v (if (eqb (fieldCount ts) (valCount (fieldsIn v))) (fitsAll ts 0 (fieldsIn v)) (refused 6 0))) (valsBytes 0 (fieldsIn v)) bs e in
+    parts v bs e =
+        let ts = top .ts in
+        let q = accepted (ofKind 5 v (if (eqb (fieldCount ts) (valCount (fieldsIn v))) (fitsAll ts 0 (fieldsIn v)) (refused BadRecord 0))) (valsBytes 0 (fieldsIn v)) bs e in
         let k = passed _ _ (eqb-test (valKind v) 5) (λ z. clash z) (q .0) in
         let m = passed _ _ (eqb-test (fieldCount ts) (valCount (fieldsIn v))) (λ z. clash z) (k .1) in
         (k .0, m .1, q .1)
 
-    of-fields : (P : List ℕ → Type 0) → ((ts : Tys) (vs : Vals) → fitsAll ts 0 vs ≡ fine → values.Admitted words pool (Val.Record vs) → P (valsBytes 0 vs))
-        → (t : Ty) (v : Val) (bs : List ℕ) → types.Admitted ty t → values.Admitted words pool v → keyBytes t v ≡ ok bs → P bs
-    unfolding built
-    of-fields P h t v bs a b e =
-        on-record (λ (s : Ty). keyBytes s v ≡ ok bs → P bs) t (sym (kind-of t a) ∙ five) (λ ts f.
-        let q = parts ts v bs f in
-        rw (q .2) at (h ts (fieldsIn v) (q .1) (of-value (λ (u : Val). values.Admitted words pool u → values.Admitted words pool (Val.Record (fieldsIn v))) 5 v (q .0) (λ c. c) b))) e
+    value-kind : (bs : List ℕ) → keyOf ty words pool ≡ ok bs → getD words 0 0 ≡ 5
+    value-kind bs e = value-places.kind-is words pool 0 0 _ _ (s .v) (pair .value) .1 ∙ parts (s .v) bs (sym key-bare ∙ e) .0
 
-    pub long-cut : (n : ℕ) → length words < 2 → KeyLen ty words pool n
-    long-cut n h = record { long = of-fields (λ (bs : List ℕ). n ≡ length bs) (λ ts vs fit b. absurd (omega (arith, fields-at vs b .inside))) }
+    pub accepted-second : (bs : List ℕ) → keyOf ty words pool ≡ ok bs → 1 < length words
+    accepted-second bs e = value-second (value-kind bs e)
 
-    pub long-fields : (n : ℕ) → n ≡ sumLen (drop 2 words) pool → KeyLen ty words pool n
-    long-fields n e = record { long = of-fields (λ (bs : List ℕ). n ≡ length bs) (λ ts vs fit b. e ∙ fields-sum words pool ts 0 vs (fields-at vs b .fields) fit) }
-
-    by-fields : (l l′ : List ℕ) → ((ts : Tys) (vs : Vals) → fitsAll ts 0 vs ≡ fine → values.Admitted words pool (Val.Record vs) → length (valsBytes 0 vs) ≤ length l → l′ ≡ put l 0 (valsBytes 0 vs)) → PutKey ty words pool l l′
-    by-fields l l′ h = record { wrote = of-fields (λ (bs : List ℕ). length bs ≤ length l → l′ ≡ put l 0 bs) h }
-
-    pub put-cut : (l : List ℕ) → length words < 2 → PutKey ty words pool l l
-    put-cut l h = by-fields l l (λ ts vs fit b room. absurd (omega (arith, fields-at vs b .inside)))
-
-    pub put-fields : (l : List ℕ) (r : Put) (l′ : List ℕ) (n : ℕ) → n ≡ getD words 1 0 → write.Row words pool n 2 0 0 l r l′ → PutKey ty words pool l l′
-    put-fields l r l′ n kn row = by-fields l l′ (λ ts vs fit b room.
-        let d = fields-at vs b in
-        row .row ts 0 vs _ _ fit (kn ∙ d .count) (d .fields) (omega arith) .wrote)
+    pub put-bare : {l l′ : List ℕ} {p : Put} → write.WroteFields words pool (write.standing 2 0 0) (getD words 1 0) 0 l p l′ → PutKey ty words pool l l′
+    unfolding values.Proper
+    put-bare i =
+        record {
+          wrote = λ bs e room.
+              let b = val (value-kind bs e) in
+              let q = parts (Val.Record (b .vs)) bs (sym (key-fields (value-kind bs e)) ∙ e) in
+              let proper = subst values.Proper (b .is) (value .proper) in
+              rw (q .2) at (i .says .row (top .ts) (b .vs) _ _ (q .1) proper (b .count) (b .fields) (rw (q .2) (omega arith)) .wrote);
+        }

@@ -1,3 +1,3 @@
--- Laws of the encoding calls.
-pub mod Keys
-pub mod Outcomes
+-- Laws that the proofs of the encoding calls cite.
+mod Keys
+mod Outcomes

@@ -1,35 +1,50 @@
 -- What an answer of the encoding calls says, and what the two passes over a key promise.
 use mathlib.Core.Path.{_≡_}
+use mathlib.Core.Option.{some}
 use mathlib.Core.List.{List}
-use Prim.Native.Nat.{ℕ, _≤_, _<_}
+use Prim.Native.Nat.{ℕ, _≤_}
 use lib.ListN.{length}
-use Rattle.format.specs.Answer.{Answer, ok, refused}
+use Rattle.format.specs.Answer.{Answer, ok, refused, andThen}
 use Rattle.format.specs.Tree.{Ty, Val}
-use Rattle.format.specs.TypeSheet as types
-use Rattle.format.specs.ValueSheet as values
+use Rattle.format.specs.TypeSheet.{typeOf}
+use Rattle.format.specs.ValueSheet.{valueOf}
 use Rattle.format.specs.Encode.{keyBytes}
 use Rattle.format.specs.Fields.{put}
-use Rattle.fit.specs.Fit.{refusals, Bad}
-use Rattle.encode.specs.declared.Encoded.{Encoded}
-use Rattle.encode.specs.declared.Encoded.the-variants.{Done, Refused}
+use Rattle.format.specs.Calls.{Called, withType, withValue}
+use Rattle.format.specs.Lengths.{lengthIn}
+use Rattle.format.specs.declared.Length.{Length}
+use Rattle.fit.specs.declared.Fitted.{Fitted}
+use Rattle.fit.specs.declared.Fitted.the-variants.{Fits, Refused}
 
-abbrev pub encodedOf : Encoded → Answer ℕ
-encodedOf (Done n) = ok n
-encodedOf (Refused n d) = refused n d
+-- the answer is the call's, and so is what it left in the buffer
+abbrev pub Answers : Called ℕ → Length → List ℕ → Type 0
+Answers call r l = (lengthIn r ≡ call .answer) × (l ≡ call .buffer)
 
--- r says whether there are bytes, or the refusal
-abbrev pub Judges : Answer (List ℕ) → (r : ℕ) → Type 0
-Judges (ok bs) r = r < refusals
-Judges (refused m d) r = Bad m d r
+-- the length that was measured, and that of the bytes
+abbrev pub sizeIn : Fitted → Answer ℕ
+sizeIn (Fits at word pool len) = ok len
+sizeIn (Refused n d) = refused n d
 
--- the judgement of the key of an admitted type and an admitted value
-pub record FitKey (ty words : List ℕ) (r : ℕ) : Type 0 where
-  pub says : (pool : List ℕ) (t : Ty) (v : Val) → types.Admitted ty t → values.Admitted words pool v → Judges (keyBytes t v) r
+abbrev pub sized : Answer (List ℕ) → Answer ℕ
+sized a = andThen a (λ bs. ok (length bs))
 
--- the key's length
-pub record KeyLen (ty words pool : List ℕ) (n : ℕ) : Type 0 where
-  pub long : (t : Ty) (v : Val) (bs : List ℕ) → types.Admitted ty t → values.Admitted words pool v → keyBytes t v ≡ ok bs → n ≡ length bs
+-- the bytes of the key that the sheets say
+abbrev pub keyOf : (ty words pool : List ℕ) → Answer (List ℕ)
+keyOf ty words pool = withType (typeOf ty) (λ t. withValue (valueOf words pool) (λ v. keyBytes t v))
 
--- their key is written at the buffer's beginning, where there is room for it
+-- admitted sheets, by the type and the value that they say
+pub record Sheets (ty words pool : List ℕ) : Type 0 where
+  pub t : Ty
+  pub v : Val
+  pub is-type : typeOf ty ≡ some t
+  pub is-value : valueOf words pool ≡ some v
+
+-- and their key has bytes
+pub record Accepted (ty words pool : List ℕ) : Type 0 where
+  pub sheets : Sheets ty words pool
+  pub bytes : List ℕ
+  pub is : keyOf ty words pool ≡ ok bytes
+
+-- the key is written at the buffer's beginning, where there is room for it
 pub record PutKey (ty words pool l l′ : List ℕ) : Type 0 where
-  pub wrote : (t : Ty) (v : Val) (bs : List ℕ) → types.Admitted ty t → values.Admitted words pool v → keyBytes t v ≡ ok bs → length bs ≤ length l → l′ ≡ put l 0 bs
+  pub wrote : (bs : List ℕ) → keyOf ty words pool ≡ ok bs → length bs ≤ length l → l′ ≡ put l 0 bs

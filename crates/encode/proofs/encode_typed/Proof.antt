@@ -1,7 +1,11 @@
-use mathlib.Core.Path.{sym, _∙_}
+-- The sheets are judged, then the value is measured, then written: each way out is a law of `Outcomes` about a call with the encoder `encodeTyped`.
 use native.Mathlib.Omega.{arith}
-use borrow.Author.Tests.{not-true, not-false}
-use Rattle.encode.proofs.Outcomes as laws
+use Rattle.format.specs.Encode.{encodeTyped}
+use Rattle.format.specs.Calls.{encodeTypedCall}
+use Rattle.fit.proofs.Steps.{value-short}
+use Rattle.encode.specs.Encoded.{Sheets}
+use Rattle.encode.proofs.Keys.{sheets, stands, whole-measured, whole-written}
+use Rattle.encode.proofs.Outcomes.{said-no, said-ok, bad-type, bad-value, refuses, no-room, done}
 use borrow.Author.Needs.{needs}
 use Rattle.encode.proofs.encode_typed.Statement.{statement}
 use Rattle.encode.proofs.encode_typed.Tie as tie
@@ -10,40 +14,71 @@ admit-type-requires : tie.Need-admit-type-requires
 admit-type-requires c κs = search needs
 
 returns : tie.Need-returns
-returns c = let a = c .before .before .before .before .before .before .args in laws.typed-type (a .ty .now) (a .words .now) (a .pool .now) (a .out .now) (sym (c .before .admit-type .ensures) ∙ not-true (c .before .admit-type .result) (c .if1 .taken))
+unfolding encodeTypedCall
+returns c =
+    let a = c .before .before .before .before .before .before .args in
+    bad-type encodeTyped (a .ty .now) (a .words .now) (a .pool .now) (a .out .now) _ (c .before .admit-type .ensures) (c .if1 .taken)
 
 admit-value-requires : tie.Need-admit-value-requires
 admit-value-requires c κs = search needs
 
 returns-2 : tie.Need-returns-2
-returns-2 c = let a = c .before .before .before .before .before .before .before .before .args in laws.typed-value (a .ty .now) (a .words .now) (a .pool .now) (a .out .now) (sym (c .before .before .before .admit-type .ensures) ∙ not-false (c .before .before .before .admit-type .result) (c .before .before .if1 .left)) (sym (c .before .admit-value .ensures) ∙ not-true (c .before .admit-value .result) (c .if2 .taken))
+unfolding encodeTypedCall
+returns-2 c =
+    let c₁ = c .before .before .before in
+    let c₂ = c₁ .before .before .before .before .before in
+    let a = c₂ .args in
+    bad-value encodeTyped (a .ty .now) (a .words .now) (a .pool .now) (a .out .now) _ (c₁ .admit-type .ensures) (c .before .before .if1 .left) _ (c .before .admit-value .ensures) (c .if2 .taken)
 
 fit-value-requires : tie.Need-fit-value-requires
-fit-value-requires c κs = let a = c .before .before .before .before .before .before .before .before .args in let z = laws.sizes (a .words .now) (a .pool .now) (sym (c .before .admit-value .ensures) ∙ not-false (c .before .admit-value .result) (c .if2 .left)) in record { word-in = omega arith; few = z .0; small = laws.type-size (a .ty .now) (sym (c .before .before .before .admit-type .ensures) ∙ not-false (c .before .before .before .admit-type .result) (c .before .before .if1 .left)) }
+fit-value-requires c κs =
+    let a = c .before .before .before .before .before .before .before .before .args in
+    let s : Sheets (a .ty .now) (a .words .now) (a .pool .now) = search sheets in
+    stands s
 
-number-of-requires : tie.Need-number-of-requires
-number-of-requires c κs = search needs
+enum-known-no : tie.Need-enum-known-no
+enum-known-no c = search needs
 
-detail-of-requires : tie.Need-detail-of-requires
-detail-of-requires c κs = search needs
+enum-known-n : tie.Need-enum-known-n
+enum-known-n c = search needs
 
 returns-3 : tie.Need-returns-3
-returns-3 c = let a = c .before .before .before .before .before .before .before .before .before .before .before .before .args in rw (c .before .number-of .ensures, c .detail-of .ensures) (laws.typed-no (a .ty .now) (a .words .now) (a .pool .now) (a .out .now) (laws.sheets (a .ty .now) (a .words .now) (a .pool .now) (sym (c .before .before .before .before .before .before .before .admit-type .ensures) ∙ not-false (c .before .before .before .before .before .before .before .admit-type .result) (c .before .before .before .before .before .before .if1 .left)) (sym (c .before .before .before .before .before .admit-value .ensures) ∙ not-false (c .before .before .before .before .before .admit-value .result) (c .before .before .before .before .if2 .left))) (c .before .before .before .fit-value .result) (c .before .before .before .fit-value .ensures .says) (c .before .before .if3 .taken))
-
-encoded-len-requires : tie.Need-encoded-len-requires
-encoded-len-requires c κs = let a = c .before .before .before .before .before .before .before .before .before .before .args in let z = laws.sizes (a .words .now) (a .pool .now) (sym (c .before .before .before .admit-value .ensures) ∙ not-false (c .before .before .before .admit-value .result) (c .before .before .if2 .left)) in (omega arith, z .0, z .1)
-
-returns-4 : tie.Need-returns-4
-returns-4 c = let a = c .before .before .before .before .before .before .before .before .before .before .before .before .args in let z = laws.sizes (a .words .now) (a .pool .now) (sym (c .before .before .before .before .before .admit-value .ensures) ∙ not-false (c .before .before .before .before .before .admit-value .result) (c .before .before .before .before .if2 .left)) in laws.typed-room (a .ty .now) (a .words .now) (a .pool .now) (a .out .now) (laws.sheets (a .ty .now) (a .words .now) (a .pool .now) (sym (c .before .before .before .before .before .before .before .admit-type .ensures) ∙ not-false (c .before .before .before .before .before .before .before .admit-type .result) (c .before .before .before .before .before .before .if1 .left)) (sym (c .before .before .before .before .before .admit-value .ensures) ∙ not-false (c .before .before .before .before .before .admit-value .result) (c .before .before .before .before .if2 .left))) (c .before .before .before .fit-value .result) (c .before .before .before .fit-value .ensures .says) (c .before .before .if3 .left) _ (c .before .encoded-len .ensures .0) (c .if4 .taken) (omega (arith, z .0, z .1, c .before .encoded-len .ensures .1))
+unfolding encodeTypedCall
+returns-3 c =
+    let c₁ = c .before .before .before .before in
+    let c₂ = c₁ .before .before .before .before .before .before .before .before .before in
+    let a = c₂ .args in
+    let s : Sheets (a .ty .now) (a .words .now) (a .pool .now) = search sheets in
+    let b = said-ok _ (rw (c .before .before .n .given .1) at (whole-measured s (c₁ .fit-value .ensures))) in
+    let short = rw (c .before .before .n .given .1) at (value-short (stands s) (c₁ .fit-value .ensures)) in
+    no-room encodeTyped s _ (b .1) (b .2) (c .if3 .taken) (omega arith)
 
 put-value-requires : tie.Need-put-value-requires
 put-value-requires c κs = search needs
+
+returns-4 : tie.Need-returns-4
+unfolding encodeTypedCall
+returns-4 c =
+    let c₁ = c .before .before .before in
+    let c₂ = c₁ .before .before .before .before .before .before .before .before .before in
+    let a = c₂ .args in
+    let s : Sheets (a .ty .now) (a .words .now) (a .pool .now) = search sheets in
+    refuses encodeTyped s _ _ _ (said-no _ (rw (c .before .no .given .1) at (whole-measured s (c₁ .fit-value .ensures))))
 
 same-length : tie.Need-same-length
 same-length c = search needs
 
 returns-5 : tie.Need-returns-5
-returns-5 c = let a = c .before .before .before .before .before .before .before .before .before .before .before .before .before .before .before .before .args in let g = c .before .before .put-value .ensures in laws.typed-done (a .ty .now) (a .words .now) (a .pool .now) (a .out .now) (laws.sheets (a .ty .now) (a .words .now) (a .pool .now) (sym (c .before .before .before .before .before .before .before .before .before .before .before .admit-type .ensures) ∙ not-false (c .before .before .before .before .before .before .before .before .before .before .before .admit-type .result) (c .before .before .before .before .before .before .before .before .before .before .if1 .left)) (sym (c .before .before .before .before .before .before .before .before .before .admit-value .ensures) ∙ not-false (c .before .before .before .before .before .before .before .before .before .admit-value .result) (c .before .before .before .before .before .before .before .before .if2 .left))) (c .before .before .before .before .before .before .before .fit-value .result) (c .before .before .before .before .before .before .before .fit-value .ensures .says) (c .before .before .before .before .before .before .if3 .left) _ (c .before .before .before .before .before .encoded-len .ensures .0) (c .before .before .before .before .if4 .left) _ _ (g .says)
+unfolding encodeTypedCall
+returns-5 c =
+    let c₁ = c .before .before .before .before in
+    let c₂ = c₁ .before .before in
+    let c₃ = c₂ .before .before in
+    let c₄ = c₃ .before .before .before .before .before .before .before .before .before in
+    let a = c₄ .args in
+    let s : Sheets (a .ty .now) (a .words .now) (a .pool .now) = search sheets in
+    let b = said-ok _ (rw (c₂ .n .given .1) at (whole-measured s (c₃ .fit-value .ensures))) in
+    done encodeTyped s _ (b .1) (b .2) (c₁ .if3 .left) (whole-written s (c .before .before .put-value .ensures) (b .0) (b .1))
 
 pub encode-typed-spec : {M : Type 1} → statement M
 encode-typed-spec =
@@ -54,11 +89,10 @@ encode-typed-spec =
     admit-value-requires
     returns-2
     fit-value-requires
-    number-of-requires
-    detail-of-requires
+    enum-known-no
+    enum-known-n
     returns-3
-    encoded-len-requires
-    returns-4
     put-value-requires
+    returns-4
     same-length
     returns-5)

@@ -1,79 +1,69 @@
-use mathlib.Core.Path.{refl}
+-- By whether the top is a record: the whole value, or its fields bare after kind and count. Each way out is a law of `Keys` about admitted sheets.
 use native.Mathlib.Omega.{arith}
-use Rattle.encode.proofs.Keys as keys
+use Rattle.fit.proofs.Steps.{word-in}
+use Rattle.encode.proofs.Keys.{stands, key-whole, key-kind, type-second, value-second, key-count, fields-stand, key-measured}
 use borrow.Author.Needs.{needs}
 use Rattle.encode.proofs.fit_key.Statement.{statement}
 use Rattle.encode.proofs.fit_key.Tie as tie
 
+top-bare-requires : tie.Need-top-bare-requires
+top-bare-requires c κs = search needs
+
 fit-value-requires : tie.Need-fit-value-requires
-fit-value-requires c κs = search needs
+fit-value-requires c κs = search stands
 
 returns : tie.Need-returns
-returns c = let a = c .before .before .before .before .args in record { says = λ pool. keys.key-whole (a .ty .now) (a .words .now) pool _ (keys.whole-short (a .ty .now) (a .words .now) pool (c .before .if1 .taken)) (c .fit-value .ensures .says) }
+returns c = search key-whole
 
 shared-slice-read-if2 : tie.Need-shared-slice-read-if2
-shared-slice-read-if2 c = search needs
-
-fit-value-requires-2 : tie.Need-fit-value-requires-2
-fit-value-requires-2 c κs = search needs
+shared-slice-read-if2 c = omega (arith, word-in (stands (c .before .before .before .before .before .before .pre)))
 
 returns-2 : tie.Need-returns-2
-returns-2 c = let a = c .before .before .before .before .before .before .args in record { says = λ pool. keys.key-whole (a .ty .now) (a .words .now) pool _ (keys.whole-kind (a .ty .now) (a .words .now) pool (c .before .if2 .taken)) (c .fit-value2 .ensures .says) }
-
-refuse-requires : tie.Need-refuse-requires
-refuse-requires c κs = search needs
-
-returns-3 : tie.Need-returns-3
-returns-3 c = let a = c .before .before .before .before .before .before .before .args in record { says = λ pool. keys.key-null (a .ty .now) (a .words .now) pool (c .before .before .if2 .left) _ (c .before .if3 .taken) (c .refuse .ensures) }
-
-shared-slice-read-if4 : tie.Need-shared-slice-read-if4
-shared-slice-read-if4 c = search needs
-
-refuse-requires-2 : tie.Need-refuse-requires-2
-refuse-requires-2 c κs = search needs
-
-returns-4 : tie.Need-returns-4
-returns-4 c = let a = c .before .before .before .before .before .before .before .before .before .args in record { says = λ pool. keys.key-kind (a .ty .now) (a .words .now) pool (c .before .before .before .before .if2 .left) _ (c .before .if4 .taken) (c .refuse2 .ensures) }
+returns-2 c = search key-kind
 
 shared-slice-read-count : tie.Need-shared-slice-read-count
-shared-slice-read-count c = search needs
+shared-slice-read-count c =
+    let c₁ = c .before .before .before in
+    let c₂ = c₁ .before in
+    let c₃ = c₂ .before .before .before .before in
+    omega (arith, type-second (c₃ .pre) (c₂ .top-bare .ensures) (c₁ .if1 .left))
 
-shared-slice-read-if5 : tie.Need-shared-slice-read-if5
-shared-slice-read-if5 c = search needs
+shared-slice-read-if3 : tie.Need-shared-slice-read-if3
+shared-slice-read-if3 c =
+    let c₁ = c .before .before .before .before in
+    let c₂ = c₁ .before in
+    let c₃ = c₂ .before .before .before .before in
+    omega (arith, value-second (c₃ .pre) (c₂ .top-bare .ensures) (c₁ .if1 .left) (c .before .before .if2 .left))
 
-cast-if5 : tie.Need-cast-if5
-cast-if5 c = omega (arith, c .before .shared-slice-known5 .given 1)
+wide-word-requires : tie.Need-wide-word-requires
+wide-word-requires c κs = search needs
 
-refuse-requires-3 : tie.Need-refuse-requires-3
-refuse-requires-3 c κs = search needs
-
-returns-5 : tie.Need-returns-5
-returns-5 c = let a = c .before .before .before .before .before .before .before .before .before .before .before .before .args in record { says = λ pool. keys.key-count (a .ty .now) (a .words .now) pool (c .before .before .before .before .before .before .before .if2 .left) (c .before .before .before .before .if4 .left) _ refl _ (c .before .if5 .taken) (c .refuse3 .ensures) }
+returns-3 : tie.Need-returns-3
+returns-3 c = search key-count
 
 fit-fields-requires : tie.Need-fit-fields-requires
-fit-fields-requires c κs = search needs
+fit-fields-requires c κs =
+    let c₁ = c .before .before .before .before in
+    let c₂ = c₁ .before .before in
+    let c₃ = c₂ .before in
+    let c₄ = c₃ .before .before .before .before in
+    fields-stand (c₄ .pre) (c₃ .top-bare .ensures) (c₂ .if1 .left) (c₁ .if2 .left) _ (c .before .wide-word .ensures) (c .if3 .left)
 
-returns-6 : tie.Need-returns-6
-returns-6 c = let a = c .before .before .before .before .before .before .before .before .before .before .before .before .args in record { says = λ pool. keys.key-fields (a .ty .now) (a .words .now) pool (c .before .before .before .before .before .before .before .if2 .left) (c .before .before .before .before .if4 .left) _ refl _ (c .before .if5 .left) (c .fit-fields .ensures .says) }
+returns-4 : tie.Need-returns-4
+returns-4 c = search key-measured
 
 pub fit-key-spec : {M : Type 1} → statement M
 fit-key-spec =
     tie.close
     (tie.spec
+    top-bare-requires
     fit-value-requires
     returns
     shared-slice-read-if2
-    fit-value-requires-2
     returns-2
-    refuse-requires
-    returns-3
-    shared-slice-read-if4
-    refuse-requires-2
-    returns-4
     shared-slice-read-count
-    shared-slice-read-if5
-    cast-if5
-    refuse-requires-3
-    returns-5
+    shared-slice-read-if3
+    wide-word-requires
+    returns-3
     fit-fields-requires
-    returns-6)
+    returns-4)

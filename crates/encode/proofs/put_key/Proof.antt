@@ -1,9 +1,12 @@
-use mathlib.Core.Path.{refl}
+-- By whether the top is a record, as it was measured: an accepted record's value is a record too, so it has a count.
 use native.Mathlib.Omega.{arith}
-use Rattle.encode.proofs.Keys as keys
+use Rattle.encode.proofs.Keys.{put-whole, accepted-second, put-bare}
 use borrow.Author.Needs.{needs}
 use Rattle.encode.proofs.put_key.Statement.{statement}
 use Rattle.encode.proofs.put_key.Tie as tie
+
+top-bare-requires : tie.Need-top-bare-requires
+top-bare-requires c κs = search needs
 
 put-value-requires : tie.Need-put-value-requires
 put-value-requires c κs = search needs
@@ -12,48 +15,35 @@ same-length : tie.Need-same-length
 same-length c = search needs
 
 returns : tie.Need-returns
-returns c = let a = c .before .before .before .before .before .before .before .before .before .args in let f = c .before .before .put-value .ensures in keys.put-whole (a .ty .now) (a .words .now) (a .pool .now) (a .out .now) _ _ (keys.whole-short (a .ty .now) (a .words .now) (a .pool .now) (c .before .before .before .before .if1 .taken)) (f .says)
+returns c = search put-whole
 
-shared-slice-read-if2 : tie.Need-shared-slice-read-if2
-shared-slice-read-if2 c = search needs
+shared-slice-read-count : tie.Need-shared-slice-read-count
+shared-slice-read-count c =
+    let k = c .before .before .before .before .before .before .before .pre in
+    omega (arith, accepted-second (k .sheets) (c .before .before .top-bare .ensures) (c .before .if1 .left) (k .bytes) (k .is))
 
-put-value-requires-2 : tie.Need-put-value-requires-2
-put-value-requires-2 c κs = search needs
+put-fields-requires : tie.Need-put-fields-requires
+put-fields-requires c κs =
+    let c₁ = c .before .before .before in
+    let c₂ = c₁ .before .before .before .before .before in
+    let k = c₂ .pre in
+    record { word-in = omega (arith, accepted-second (k .sheets) (c₁ .top-bare .ensures) (c .before .before .if1 .left) (k .bytes) (k .is)); pool-in = omega arith; at-in = omega arith; deep = omega arith }
 
 same-length-2 : tie.Need-same-length-2
 same-length-2 c = search needs
 
 returns-2 : tie.Need-returns-2
-returns-2 c = let a = c .before .before .before .before .before .before .before .before .before .before .before .args in let f = c .before .before .put-value2 .ensures in keys.put-whole (a .ty .now) (a .words .now) (a .pool .now) (a .out .now) _ _ (keys.whole-kind (a .ty .now) (a .words .now) (a .pool .now) (c .before .before .before .before .if2 .taken)) (f .says)
-
-returns-3 : tie.Need-returns-3
-returns-3 c = let a = c .before .before .before .before .before .before .before .before .args in keys.put-cut (a .ty .now) (a .words .now) (a .pool .now) (c .before .if2 .left) (a .out .now) (c .if3 .taken)
-
-shared-slice-read-count : tie.Need-shared-slice-read-count
-shared-slice-read-count c = search needs
-
-put-fields-requires : tie.Need-put-fields-requires
-put-fields-requires c κs = search needs
-
-same-length-3 : tie.Need-same-length-3
-same-length-3 c = search needs
-
-returns-4 : tie.Need-returns-4
-returns-4 c = let a = c .before .before .before .before .before .before .before .before .before .before .before .before .before .args in let f = c .before .before .put-fields .ensures in keys.put-fields (a .ty .now) (a .words .now) (a .pool .now) (c .before .before .before .before .before .before .if2 .left) (a .out .now) _ _ _ refl (f .says)
+returns-2 c = search put-bare
 
 pub put-key-spec : {M : Type 1} → statement M
 put-key-spec =
     tie.close
     (tie.spec
+    top-bare-requires
     put-value-requires
     same-length
     returns
-    shared-slice-read-if2
-    put-value-requires-2
-    same-length-2
-    returns-2
-    returns-3
     shared-slice-read-count
     put-fields-requires
-    same-length-3
-    returns-4)
+    same-length-2
+    returns-2)
