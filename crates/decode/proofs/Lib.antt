@@ -1,3 +1,3 @@
--- Laws of the decoding calls, one for each way out of them.
-pub mod SizeLaws
+-- Laws of whole values: measuring, filling, and the calls.
 pub mod TopLaws
+pub mod FillLaws

@@ -2,16 +2,17 @@
 use mathlib.Core.Bool.{Bool, true, false}
 use mathlib.Core.Path.{_≡_}
 use mathlib.Core.List.{List, []}
-use Prim.Native.Nat.{ℕ, _≤_}
-use lib.ListN.{length}
-use Rattle.format.specs.Answer.{ok, refused}
+use Prim.Native.Nat.{ℕ, _+_, _≤_}
+use lib.Dec.{eqb}
+use lib.ListN.{length, getD}
+use Rattle.format.specs.Answer.{if, ok, refused}
 use Rattle.format.specs.Tree.{Ty, Tys, Val}
-use Rattle.format.specs.Sheet.{valWords, valPool}
+use Rattle.format.specs.Sheet.{tyWords, valWords, valPool}
 use Rattle.format.specs.TypeSheet.{maxGroups, nesting, typeOf}
 use Rattle.format.specs.Decode as format
 use Rattle.format.specs.Calls.{Filled, Checked, filled, decodedBy, over}
-use Rattle.format.proofs.TypePlaces.{TypeIn}
-use Rattle.read.specs.Walk.{Walks, readKey}
+use Rattle.format.proofs.TypePlaces.{TypeIn, tyKind}
+use Rattle.read.specs.Walk.{TypeAt, Walks, valSizes, readBare}
 use Rattle.read.specs.declared.Walked.{Walked}
 use Rattle.decode.specs.declared.Decoded.{Decoded}
 use Rattle.decode.specs.declared.CheckedKey.{CheckedKey}
@@ -26,39 +27,56 @@ abbrev pub checkedOf : CheckedKey → Checked
 checkedOf (CheckedKey.Accepted k) = record { answer = ok tt; begun = k }
 checkedOf (CheckedKey.Refused n d k) = record { answer = refused n d; begun = k }
 
+-- the call's answer, count and buffers are those of a definition's call, and at most one value more is begun than there are bytes
+pub record Decodes (c : Filled) (bytes : List ℕ) (r : Decoded) (words pool : List ℕ) : Type 0 where
+  pub is : decodedOf r words pool ≡ c
+  pub few : decodedOf r words pool .begun ≤ length bytes + 1
+
+pub record ChecksKey (c : Checked) (bytes : List ℕ) (r : CheckedKey) : Type 0 where
+  pub is : checkedOf r ≡ c
+  pub few : checkedOf r .begun ≤ length bytes + 1
+
 -- ---- within the crate
 
--- a whole value with what is left over, a top record bare or as a group
+-- are the fields of the top bare? Those of a key are, where its type is a record
+abbrev pub isBare : Bool → Ty → Bool
+isBare key t = if key (eqb (tyKind t) (tyKind (Ty.Record Tys.NoTy))) false
+
+-- a value with what is left over: a record's fields bare, or as any field
 abbrev pub readTop : Bool → Ty → List ℕ → format.Decoded Val
-readTop true t bs = readKey t bs
+readTop true t bs = readBare t bs
 readTop false t bs = format.decode t 0 bs
 
 -- nothing left over, under the type of an admitted sheet
 abbrev pub decodedTop : Bool → (ty bytes : List ℕ) → format.Decoded Val
-decodedTop bare ty bytes = decodedBy (typeOf ty) (λ t. format.whole (readTop bare t bytes))
-
-abbrev pub fillCall : Bool → (ty bytes words pool : List ℕ) → Filled
-fillCall bare ty bytes words pool = filled words pool (decodedTop bare ty bytes)
+decodedTop key ty bytes = decodedBy (typeOf ty) (λ t. format.whole (readTop (isBare key t) t bytes))
 
 -- how much room a value takes, or the refusal
 abbrev pub measuredBy : format.Decoded Val → Decoded
 measuredBy (format.Decoded.got v rest k) = Decoded.Done (length (valWords v)) (length (valPool v)) k
 measuredBy (format.Decoded.bad n d k) = Decoded.Refused n d k
 
--- the fields of a top record are bare; else the value is as any field
-abbrev pub TopIs : Bool → (ty : List ℕ) → Bool → Type 0
-TopIs bare ty true = (t : Ty) (e : ℕ) → TypeIn ty 0 t e → (ts : Tys) × (t ≡ Ty.Record ts) × (bare ≡ true)
-TopIs bare ty false = (t : Ty) (e : ℕ) → TypeIn ty 0 t e → (bytes : List ℕ) → readTop bare t bytes ≡ format.decode t 0 bytes
+-- whatever type stands at the top, its fields are bare or not
+pub record TopIs (key : Bool) (ty : List ℕ) (bare : Bool) : Type 0 where
+  pub is : (t : Ty) (e : ℕ) → TypeIn ty 0 t e → isBare key t ≡ bare
+
+-- a type stands at the top, and it is a record where its fields are bare
+pub record Top (ty : List ℕ) (bare : Bool) : Type 0 where
+  pub type : TypeAt ty 0
+  pub kind : bare ≡ true → getD ty 0 0 ≡ 5
 
 -- the walk from the start, of any type that stands there
 pub record TopWalk (bare : Bool) (ty bytes : List ℕ) (r : Walked) : Type 0 where
-  pub walk : (t : Ty) (e : ℕ) → TypeIn ty 0 t e → nesting t ≤ maxGroups → Walks valPool bytes false e 0 0 r (readTop bare t bytes)
+  pub walk : (t : Ty) (e : ℕ) → TypeIn ty 0 t e → nesting t ≤ maxGroups → Walks valSizes bytes 0 false e (length (tyWords t)) r (readTop bare t bytes)
 
--- w is the number of words of what is read, with k values begun
-pub record TopWords (bare : Bool) (ty : List ℕ) (k w : ℕ) : Type 0 where
-  pub words : (t : Ty) (e : ℕ) → TypeIn ty 0 t e → (bytes : List ℕ) (v : Val) (rest : List ℕ) → readTop bare t bytes ≡ format.Decoded.got v rest k → w ≡ length (valWords v)
+pub record Measures (bare : Bool) (ty bytes : List ℕ) (r : Decoded) : Type 0 where
+  pub is : (t : Ty) (e : ℕ) → TypeIn ty 0 t e → nesting t ≤ maxGroups → r ≡ measuredBy (format.whole (readTop bare t bytes))
 
 -- the sheet of what is read whole, over the beginnings of both buffers, where they have room
-pub record TopFilled (bare : Bool) (ty bytes win pin wout pout : List ℕ) : Type 0 where
-  pub fills : (t : Ty) (e : ℕ) → TypeIn ty 0 t e → (v : Val) (k : ℕ) → readTop bare t bytes ≡ format.Decoded.got v [] k → length (valWords v) ≤ length win → length (valPool v) ≤ length pin
+pub record TopFilled (bare : Bool) (bytes win pin wout pout : List ℕ) : Type 0 where
+  pub fills : (t : Ty) (v : Val) (k : ℕ) → readTop bare t bytes ≡ format.Decoded.got v [] k → length (valWords v) ≤ length win → length (valPool v) ≤ length pin
       → (wout ≡ over (valWords v) win) × (pout ≡ over (valPool v) pin)
+
+-- the answer and both buffers are those of the definition, a top record's fields bare or as a group
+pub record Fills (key : Bool) (ty bytes win pin : List ℕ) (r : Decoded) (wout pout : List ℕ) : Type 0 where
+  pub is : decodedOf r wout pout ≡ filled win pin (decodedTop key ty bytes)

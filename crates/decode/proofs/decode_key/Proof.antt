@@ -1,7 +1,7 @@
--- `decode_key` meets its contract.
-use Rattle.decode.proofs.TopLaws as laws
-use mathlib.Core.Path.{ap, _∙_}
-use Rattle.format.specs.Calls.{decodeKeyCall, filled}
+-- The inner call with the fields of a top record bare; the count is few by the law of the definition's call.
+use Rattle.decode.proofs.FillLaws as laws
+use Rattle.format.proofs.SoundLaws.{all-bytes}
+use native.Mathlib.Omega.{arith}
 use borrow.Author.Needs.{needs}
 use Rattle.decode.proofs.decode_key.Statement.{statement}
 use Rattle.decode.proofs.decode_key.Tie as tie
@@ -16,8 +16,11 @@ same-length-2 : tie.Need-same-length-2
 same-length-2 c = search needs
 
 returns : tie.Need-returns
-unfolding decodeKeyCall
-returns c = let a = c .before .before .before .before .before .before .before .before .before .before .before .args in c .before .before .before .before .decode .ensures ∙ ap (filled (a .words .now) (a .pool .now)) (laws.key-is (a .ty .now) (a .bytes .now))
+returns c =
+    let at-decode = c .before .before .before .before in
+    let at-shared-slice-known2 = at-decode .before .before .before .before .before in
+    laws.key-call (all-bytes (at-shared-slice-known2 .before .before .args .bytes .now) (λ i. omega (arith, at-shared-slice-known2 .shared-slice-known2 .given i)))
+    (at-decode .decode .ensures)
 
 pub decode-key-spec : {M : Type 1} → statement M
 decode-key-spec = tie.close (tie.spec decode-requires same-length same-length-2 returns)
