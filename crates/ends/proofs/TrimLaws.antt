@@ -1,20 +1,17 @@
 -- Trailing FF dropped from the end, and what a raised string is written as.
-use mathlib.Core.Path.{_≡_, refl, sym, ap, ap₂, _∙_}
-use mathlib.Core.Bool.{Bool, true, false}
+use mathlib.Core.Path.{_≡_, refl, sym, ap, _∙_}
 use mathlib.Core.List.{List, [], _∷_, _++_, append-assoc}
-use Prim.Native.Nat.{ℕ, zero, suc, _+_, _-_, _≤_, _<_, _^_}
+use Prim.Native.Nat.{ℕ, suc, _+_, _-_, _≤_, _<_, _^_}
 use native.Mathlib.Omega.{arith}
-use native.Mathlib.Nat.{zero-add}
 use native.Mathlib.Numerals.{add-one}
 use borrow.Author.Tests.{ne-eqb, lt-ltb, le-leb, lt-leb}
-use lib.Dec.{eqb, ltb}
 use lib.ListN.{length, take, drop, getD, set, length-append, length-take}
-use lib.Seq.{take-suc, take-all, slice, length-slice, drop-cons, set-at}
-use Rattle.format.specs.Answer.{if, Answer, ok, refused, NoBound, NoRoom}
+use lib.Seq.{take-suc, take-all, slice, drop-cons, set-at}
+use Rattle.format.specs.Answer.{ok, refused, NoBound, NoRoom}
 use Rattle.format.specs.Bounds.{before, trimmed, raised, raisedOr, strinc, aboveField}
 use Rattle.format.specs.Calls.{over, written, strincCall, aboveFieldCall}
 use Rattle.format.specs.Fields.{put}
-use Rattle.ends.specs.declared.Written.the-variants.{Done, Refused}
+use Rattle.format.specs.declared.Length.the-variants.{Done, Refused}
 use Rattle.ends.specs.Ends.{Trims, Leaves}
 
 -- a trailing FF is dropped

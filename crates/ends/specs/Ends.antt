@@ -3,20 +3,14 @@ use mathlib.Core.Path.{_≡_}
 use mathlib.Core.List.{List}
 use Prim.Native.Nat.{ℕ, _-_, _≤_, _<_}
 use lib.ListN.{length, take, getD}
-use Rattle.format.specs.Answer.{Answer, ok, refused}
 use Rattle.format.specs.Bounds.{trimmed}
 use Rattle.format.specs.Calls.{Called}
-use Rattle.ends.specs.declared.Written.{Written}
-use Rattle.ends.specs.declared.Written.the-variants.{Done, Refused}
-
--- the answer by document 01's numbers
-abbrev pub writtenOf : Written → Answer ℕ
-writtenOf (Done n) = ok n
-writtenOf (Refused n d) = refused n d
+use Rattle.format.specs.Lengths.{lengthIn}
+use Rattle.format.specs.declared.Length.{Length}
 
 -- the answer and the buffer are those of a definition's call
-pub record Leaves (c : Called ℕ) (r : Written) (buffer : List ℕ) : Type 0 where
-  pub answer : writtenOf r ≡ c .answer
+pub record Leaves (c : Called ℕ) (r : Length) (buffer : List ℕ) : Type 0 where
+  pub answer : lengthIn r ≡ c .answer
   pub left : buffer ≡ c .buffer
 
 -- n bytes of a prefix are left without its trailing FF

@@ -1,12 +1,7 @@
 // Ends of ranges of keys: strinc and above_field.
+use format::Length;
 ghost use Rattle.format.specs.Calls.{strincCall, aboveFieldCall};
 ghost use Rattle.ends.specs.Ends.{Trims, Leaves};
-
-// What a call wrote: its length, or a refusal and its detail.
-pub enum Written {
-    Done(usize),
-    Refused(u32, u64),
-}
 
 // How many bytes a prefix has without its trailing FF.
 fn trimmed_len(prefix: &[u8]) -> usize
@@ -23,33 +18,33 @@ fn trimmed_len(prefix: &[u8]) -> usize
     n
 }
 
-// The least end above every string that begins with the prefix: trailing FF dropped, one added to the last byte left.
-pub fn strinc(prefix: &[u8], out: &mut [u8]) -> Written
+// An end above every string that begins with the prefix: trailing FF dropped, one added to the last byte left.
+pub fn strinc(prefix: &[u8], out: &mut [u8]) -> Length
     ensures { λ r. ⌜ Leaves (strincCall (now (prefix .entry)) (now (out .entry))) r (now (out .exit)) ⌝ }
 {
     let n = trimmed_len(prefix);
     if n == 0 {
-        return Written::Refused(format::NO_BOUND, 0);
+        return Length::Refused(format::NO_BOUND, 0);
     }
     if out.len() < n {
-        return Written::Refused(format::NO_ROOM, n as u64);
+        return Length::Refused(format::NO_ROOM, n as u64);
     }
     let last = n - 1;
     blocks::copy_to(out, 0, prefix, 0, last);
     out[last] = prefix[last] + 1;
-    Written::Done(n)
+    Length::Done(n)
 }
 
 // The end above a field's value: FF behind the key through that field.
-pub fn above_field(key: &[u8], out: &mut [u8]) -> Written
+pub fn above_field(key: &[u8], out: &mut [u8]) -> Length
     ensures { λ r. ⌜ Leaves (aboveFieldCall (now (key .entry)) (now (out .entry))) r (now (out .exit)) ⌝ }
 {
     let n = key.len();
     let end = n + 1;
     if out.len() < end {
-        return Written::Refused(format::NO_ROOM, end as u64);
+        return Length::Refused(format::NO_ROOM, end as u64);
     }
     blocks::copy_to(out, 0, key, 0, n);
     out[n] = format::MARK_ESCAPE;
-    Written::Done(end)
+    Length::Done(end)
 }

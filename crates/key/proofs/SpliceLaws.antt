@@ -1,7 +1,7 @@
 -- Bytes moved within a buffer and bytes written before them give the key with a part spliced in.
 use mathlib.Core.Path.{_≡_, refl, sym, ap, ap₂, _∙_}
 use mathlib.Core.List.{List, [], _∷_, _++_, append-assoc}
-use Prim.Native.Nat.{ℕ, zero, suc, _+_, _-_, _≤_, _<_}
+use Prim.Native.Nat.{ℕ, zero, suc, _+_, _-_, _≤_}
 use native.Mathlib.Omega.{arith}
 use lib.ListN.{length, take, drop, length-append, length-take, length-drop}
 use lib.Seq.{take-take, take-append-le, drop-at}
@@ -9,7 +9,7 @@ use Rattle.format.specs.Calls.{over}
 use Rattle.format.specs.Fields.{put}
 use Rattle.format.specs.Encode.{valBytes}
 use Rattle.write.specs.declared.Put.{Put}
-use Rattle.write.specs.Write.{One}
+use Rattle.write.specs.Write.{standing, WroteValue}
 use Rattle.key.specs.Keys.{Puts, Splices}
 
 drop-part : (e u : ℕ) (b : List ℕ) → drop e (take u b) ≡ take (u - e) (drop e b)
@@ -68,15 +68,18 @@ module _ (b x : List ℕ) (p e u : ℕ) (pe : p ≤ e) (eu : e ≤ u) (ub : u �
 -- ---- the steps
 
 -- bytes behind the part moved, and the value of a sheet written in its place
-pub spliced-by : (buffer : List ℕ) (used start end n : ℕ) (words pool m out : List ℕ) (r : Put) → Puts buffer used start end n
-    → m ≡ put buffer (start + n) (take (used - end) (drop end buffer)) → One words pool 0 0 start m r out → Splices buffer used start end n words pool out
-spliced-by buffer used start end n words pool m out r p e w = record {
-  splices = λ t v s f l.
+pub spliced-by : {buffer : List ℕ} {used start end n : ℕ} {words pool m out : List ℕ} {r : Put} → Puts buffer used start end n
+    → m ≡ put buffer (start + n) (take (used - end) (drop end buffer)) → WroteValue words pool (standing 0 0 start) 0 m r out
+    → Splices buffer used start end n words pool out
+spliced-by {buffer} {used} {start} {end} {n} {words} {pool} {m} p e w = record {
+  splices = λ t v s pr f l.
       let x = valBytes 0 v in
       let room : start + length x + (used - end) ≤ length buffer = omega (arith, p .room) in
-      let em : m ≡ put buffer (start + length x) (take (used - end) (drop end buffer)) = e ∙ ap (λ (k : ℕ). put buffer (start + k) (take (used - end) (drop end buffer))) l in
-      let lm : length m ≡ length buffer = ap length em ∙ put-long buffer (start + length x) (take (used - end) (drop end buffer)) (omega (arith, length-take (used - end) (drop end buffer), length-drop end buffer)) in
-      let d = w .one t 0 v (length words) (length pool) f s (omega arith) in
+      let em : m ≡ put buffer (start + length x) (take (used - end) (drop end buffer)) =
+      e ∙ ap (λ (k : ℕ). put buffer (start + k) (take (used - end) (drop end buffer))) l in
+      let lm : length m ≡ length buffer =
+      ap length em ∙ put-long buffer (start + length x) (take (used - end) (drop end buffer)) (omega (arith, length-take (used - end) (drop end buffer), length-drop end buffer)) in
+      let d = w .says .one t v (length words) (length pool) f pr s (omega arith) in
       d .wrote ∙ ap (λ (l : List ℕ). put l start x) em ∙ splice buffer x start end used (p .part) (p .within) (p .inside) room;
 }
   where

@@ -1,3 +1,4 @@
 -- What the contracts cite beside the calls of format.
 pub mod Passing
 pub mod Keys
+pub mod Lists

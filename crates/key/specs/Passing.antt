@@ -13,19 +13,18 @@ use Rattle.format.specs.Replace.{fieldAt}
 use Rattle.format.proofs.Bytes.{AllBytes}
 use Rattle.format.proofs.TypePlaces.{TypeIn, TypesIn}
 use Rattle.format.proofs.ReplaceLaws.{fieldType}
+use Rattle.format.specs.declared.Length.{Length}
 use Rattle.key.specs.declared.passing.Passed.{Passed}
 use Rattle.key.specs.declared.passing.Passed.the-variants as passed
 use Rattle.key.specs.declared.passing.Rest.{Rest}
 use Rattle.key.specs.declared.passing.Rest.the-variants as rest
-use Rattle.key.specs.declared.passing.Split.{Split}
-use Rattle.key.specs.declared.passing.Split.the-variants as split
 use Rattle.key.specs.declared.passing.Field.{Field}
 use Rattle.key.specs.declared.passing.Field.the-variants as field
 
 -- the places behind what is read, or its refusal
-abbrev pub Says : {A : Type 0} → (bytes : List ℕ) (end : ℕ) → Passed → Decoded A → Type 0
-Says bytes end r (Decoded.got a left k) = (next : ℕ) × (r ≡ passed.To end next) × (drop next bytes ≡ left) × (next ≤ length bytes)
-Says bytes end r (Decoded.bad n d k) = r ≡ passed.Refused n d
+pub data Says {A : Type 0} (bytes : List ℕ) (end : ℕ) : Passed → Decoded A → Type 0 where
+  to : {a : A} {next k : ℕ} → next ≤ length bytes → Says bytes end (passed.To end next) (Decoded.got a (drop next bytes) k)
+  not : {n d k : ℕ} → Says bytes end (passed.Refused n d) (Decoded.bad n d k)
 
 -- of any type that stands at the place
 pub record PassesValue (ty : List ℕ) (at : ℕ) (bytes : List ℕ) (i : ℕ) (r : Passed) : Type 0 where
@@ -44,12 +43,12 @@ pub record Ends (ty : List ℕ) (at n : ℕ) (bytes : List ℕ) (i : ℕ) (r : R
   pub end : (ts : Tys) (e : ℕ) → TypesIn ty at ts e → n ≡ fieldCount ts → nestings ts ≤ maxGroups → EndSays r (whole (decodeBare ts (drop i bytes)))
 
 -- where the first k fields of a key end
-abbrev pub SplitSays : (key : List ℕ) (k : ℕ) → Split → Decoded Val → Type 0
+abbrev pub SplitSays : (key : List ℕ) (k : ℕ) → Length → Decoded Val → Type 0
 SplitSays key k r (Decoded.got v left j) =
-    (p : ℕ) × (r ≡ split.At p) × (p ≤ length key) × (firstBytes k (fieldsIn v) ≡ take p key)
-SplitSays key k r (Decoded.bad n d j) = r ≡ split.Refused n d
+    (p : ℕ) × (r ≡ Length.Done p) × (p ≤ length key) × (firstBytes k (fieldsIn v) ≡ take p key)
+SplitSays key k r (Decoded.bad n d j) = r ≡ Length.Refused n d
 
-pub record Splits (ty : List ℕ) (n : ℕ) (key : List ℕ) (k : ℕ) (r : Split) : Type 0 where
+pub record Splits (ty : List ℕ) (n : ℕ) (key : List ℕ) (k : ℕ) (r : Length) : Type 0 where
   pub splits : (ts : Tys) (e : ℕ) → TypesIn ty 2 ts e → n ≡ fieldCount ts → nestings ts ≤ maxGroups → AllBytes key → SplitSays key k r (decodeKey (Ty.Record ts) key)
 
 -- a field of a key: the place of its type, and where it starts and ends

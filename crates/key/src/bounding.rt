@@ -1,6 +1,5 @@
 // The bounds call: the two ends of the keys with the same first k fields.
-use crate::passing::Split;
-use ends::Written;
+use format::Length;
 ghost use mathlib.Core.List.{List};
 ghost use Prim.Native.Nat.{_≤_};
 ghost use lib.ListN.{length, take};
@@ -23,8 +22,8 @@ fn write_ends(key: &[u8], n: usize, lower: &mut [u8], upper: &mut [u8]) -> Bound
         return Bounded::Refused(format::NO_ROOM, n as u64);
     }
     match ends::above_field(&key[..n], upper) {
-        Written::Refused(no, detail) => Bounded::Refused(no, detail),
-        Written::Done(end) => {
+        Length::Refused(no, detail) => Bounded::Refused(no, detail),
+        Length::Done(end) => {
             blocks::copy_to(lower, 0, key, 0, n);
             Bounded::Done(n, end)
         }
@@ -46,7 +45,7 @@ pub fn bounds(ty: &[u32], key: &[u8], k: usize, lower: &mut [u8], upper: &mut [u
         return Bounded::Refused(format::NO_FIELD, 0);
     }
     match crate::passing::split_key(ty, n, key, k as u32) {
-        Split::Refused(no, detail) => Bounded::Refused(no, detail),
-        Split::At(end) => write_ends(key, end, lower, upper),
+        Length::Refused(no, detail) => Bounded::Refused(no, detail),
+        Length::Done(end) => write_ends(key, end, lower, upper),
     }
 }

@@ -5,5 +5,4 @@ mod replacing;
 
 pub use bounding::Bounded;
 pub use bounding::bounds;
-pub use replacing::Replaced;
 pub use replacing::replace;

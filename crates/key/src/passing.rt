@@ -1,6 +1,6 @@
 // Passing over the bare fields of a key by their types, keeping no value.
+use format::Length;
 use read::Walked;
-ghost use mathlib.Core.Path.{_≡_};
 ghost use Prim.Native.Nat.{_≤_, _<_};
 ghost use lib.ListN.{length};
 ghost use Rattle.read.specs.Walk.{TypeAt, FieldsAt};
@@ -18,22 +18,10 @@ pub enum Rest {
     Refused(u32, u64),
 }
 
-// Where a key's first k fields end, or what refuses the key.
-pub enum Split {
-    At(usize),
-    Refused(u32, u64),
-}
-
 // The place of a field's type, and where the field starts and ends in the key; or what refuses the key.
 pub enum Field {
     At(usize, usize, usize),
     Refused(u32, u64),
-}
-
-fn wide(x: u8) -> u64
-    ensures { λ r. ⌜ r ≡ x ⌝ }
-{
-    x as u64
 }
 
 // One value at depth 0.
@@ -41,7 +29,7 @@ pub fn pass_value(ty: &[u32], at: usize, bytes: &[u8], i: usize) -> Passed
     requires { ⌜ TypeAt (now ty) at ⌝ ∗ ⌜ i ≤ length (now bytes) ⌝ }
     ensures { λ r. ⌜ PassesValue (now (ty .entry)) at (now (bytes .entry)) i r ⌝ }
 {
-    match read::walk_value(ty, at, bytes, i, 0, 0, 0, true) {
+    match read::walk_value(ty, at, bytes, i, 0, true) {
         Walked::Bad {
             no,
             detail,
@@ -50,6 +38,7 @@ pub fn pass_value(ty: &[u32], at: usize, bytes: &[u8], i: usize) -> Passed
         Walked::Good {
             at: end,
             next,
+            words: _,
             pool: _,
             begun: _,
         } => Passed::To(end, next),
@@ -61,7 +50,7 @@ pub fn pass_fields(ty: &[u32], at: usize, n: u32, bytes: &[u8], i: usize) -> Pas
     requires { ⌜ FieldsAt (now ty) at n ⌝ ∗ ⌜ i ≤ length (now bytes) ⌝ }
     ensures { λ r. ⌜ PassesFields (now (ty .entry)) at n (now (bytes .entry)) i r ⌝ }
 {
-    match read::walk_bare(ty, at, n, bytes, i, true) {
+    match read::walk_fields(ty, at, n, bytes, i, 0, true) {
         Walked::Bad {
             no,
             detail,
@@ -70,6 +59,7 @@ pub fn pass_fields(ty: &[u32], at: usize, n: u32, bytes: &[u8], i: usize) -> Pas
         Walked::Good {
             at: end,
             next,
+            words: _,
             pool: _,
             begun: _,
         } => Passed::To(end, next),
@@ -81,7 +71,7 @@ pub fn pass_rest(ty: &[u32], at: usize, n: u32, bytes: &[u8], i: usize) -> Rest
     requires { ⌜ FieldsAt (now ty) at n ⌝ ∗ ⌜ i ≤ length (now bytes) ⌝ }
     ensures { λ r. ⌜ Ends (now (ty .entry)) at n (now (bytes .entry)) i r ⌝ }
 {
-    match read::walk_bare(ty, at, n, bytes, i, false) {
+    match read::walk_fields(ty, at, n, bytes, i, 0, false) {
         Walked::Bad {
             no,
             detail,
@@ -90,27 +80,28 @@ pub fn pass_rest(ty: &[u32], at: usize, n: u32, bytes: &[u8], i: usize) -> Rest
         Walked::Good {
             at: _,
             next,
+            words: _,
             pool: _,
             begun: _,
         } => {
             if next < bytes.len() {
-                return Rest::Refused(format::UNEXPECTED_MARK, wide(bytes[next]));
+                return Rest::Refused(format::UNEXPECTED_MARK, format::wide(bytes[next]));
             }
             Rest::Whole
         }
     }
 }
 
-// Where the first k of a key's n fields end.
-pub fn split_key(ty: &[u32], n: u32, key: &[u8], k: u32) -> Split
+// Where the first k of a key's n fields end, or what refuses the key.
+pub fn split_key(ty: &[u32], n: u32, key: &[u8], k: u32) -> Length
     requires { ⌜ FieldsAt (now ty) 2 n ⌝ ∗ ⌜ k ≤ n ⌝ }
     ensures { λ r. ⌜ Splits (now (ty .entry)) n (now (key .entry)) k r ⌝ }
 {
     match pass_fields(ty, 2, k, key, 0) {
-        Passed::Refused(no, detail) => Split::Refused(no, detail),
+        Passed::Refused(no, detail) => Length::Refused(no, detail),
         Passed::To(a, start) => match pass_rest(ty, a, n - k, key, start) {
-            Rest::Refused(no, detail) => Split::Refused(no, detail),
-            Rest::Whole => Split::At(start),
+            Rest::Refused(no, detail) => Length::Refused(no, detail),
+            Rest::Whole => Length::Done(start),
         },
     }
 }

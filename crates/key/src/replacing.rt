@@ -1,16 +1,12 @@
 // Replacement: a new value in one field of a key, in the key's own buffer.
 use crate::passing::Field;
+use fit::Fitted;
+use format::Length;
 ghost use Prim.Native.Nat.{_≤_};
 ghost use lib.ListN.{length};
-ghost use Rattle.format.specs.TypeSheet.{maxTypeWords};
 ghost use Rattle.format.specs.Calls.{replaceCall};
+ghost use Rattle.read.specs.Walk.{TypeAt};
 ghost use Rattle.key.specs.Keys.{ReplaceLeft, Puts, Splices, ValueStands};
-
-// The new used length, or a refusal and its detail.
-pub enum Replaced {
-    Done(usize),
-    Refused(u32, u64),
-}
 
 // Moves the bytes behind a part and writes the value of n bytes in its place.
 fn splice(
@@ -26,10 +22,10 @@ fn splice(
     ensures { λ _. ⌜ Splices (now (buffer .entry)) used start end n (now (words .entry)) (now (pool .entry)) (now (buffer .exit)) ⌝ }
 {
     blocks::move_within(buffer, end, start + n, used - end);
-    write::put_value(words, pool, buffer, 0, 0, start);
+    write::put_value(words, pool, buffer, 0, 0, start, 0);
 }
 
-// The new value in the place of a field that was found.
+// The new value in the place of a field that was found, whose type need not be passed once more. Its answer is the new used length.
 fn put_field(
     ty: &[u32],
     at: usize,
@@ -39,30 +35,35 @@ fn put_field(
     end: usize,
     words: &[u64],
     pool: &[u8],
-) -> Replaced
-    requires { ⌜ (start ≤ end) × (end ≤ used) × (used ≤ length (now buffer)) × (length (now ty) ≤ maxTypeWords) ⌝ }
+) -> Length
+    requires { ⌜ TypeAt (now ty) at ⌝ ∗ ⌜ (start ≤ end) × (end ≤ used) × (used ≤ length (now buffer)) ⌝ }
     ensures { λ r. ⌜ ValueStands (now (ty .entry)) at (now (buffer .entry)) used start end (now (words .entry)) (now (pool .entry)) r (now (buffer .exit)) ⌝ }
 {
     if !sheet::admit_value(words, pool) {
-        return Replaced::Refused(format::BAD_VALUE, 0);
+        return Length::Refused(format::BAD_VALUE, 0);
     }
-    let r = fit::fit_value(ty, words, at, 0, 0, 0);
-    if fit::REFUSED <= r {
-        return Replaced::Refused(fit::number_of(r), fit::detail_of(r));
+    match fit::fit_value(ty, words, pool, at, 0, 0, 0, false) {
+        Fitted::Refused(no, detail) => Length::Refused(no, detail),
+        Fitted::Fits {
+            at: _,
+            word: _,
+            pool: _,
+            len: n,
+        } => {
+            let len = start + n + (used - end);
+            if format::MAX_KEY_BYTES < len {
+                return Length::Refused(format::KEY_TOO_LONG, len as u64);
+            }
+            if buffer.len() < len {
+                return Length::Refused(format::NO_ROOM, len as u64);
+            }
+            splice(words, pool, buffer, used, start, end, n);
+            Length::Done(len)
+        }
     }
-    let n = fit::encoded_len(words, pool, 0);
-    let len = start + n + (used - end);
-    if format::MAX_KEY_BYTES < len {
-        return Replaced::Refused(format::KEY_TOO_LONG, len as u64);
-    }
-    if buffer.len() < len {
-        return Replaced::Refused(format::NO_ROOM, len as u64);
-    }
-    splice(words, pool, buffer, used, start, end, n);
-    Replaced::Done(len)
 }
 
-// Replaces a field of the key in the buffer's first bytes; what stood behind the field follows it.
+// Replaces a field of the key in the buffer's first bytes; what stood behind the field follows it. The new used length, or what refuses it.
 pub fn replace(
     ty: &[u32],
     buffer: &mut [u8],
@@ -70,24 +71,24 @@ pub fn replace(
     field: usize,
     words: &[u64],
     pool: &[u8],
-) -> Replaced
+) -> Length
     ensures { λ r. ⌜ ReplaceLeft (replaceCall (now (ty .entry)) (now (buffer .entry)) used field (now (words .entry)) (now (pool .entry))) r (now (buffer .exit)) ⌝ }
 {
     if !sheet::admit_type(ty) {
-        return Replaced::Refused(format::BAD_TYPE, 0);
+        return Length::Refused(format::BAD_TYPE, 0);
     }
     if ty[0] != format::KIND_RECORD {
-        return Replaced::Refused(format::NO_FIELD, 0);
+        return Length::Refused(format::NO_FIELD, 0);
     }
     let n = ty[1];
     if (n as usize) <= field {
-        return Replaced::Refused(format::NO_FIELD, 0);
+        return Length::Refused(format::NO_FIELD, 0);
     }
     if buffer.len() < used {
-        return Replaced::Refused(format::NO_ROOM, used as u64);
+        return Length::Refused(format::NO_ROOM, used as u64);
     }
     match crate::passing::find_field(ty, n, &buffer[..used], field as u32) {
-        Field::Refused(no, detail) => Replaced::Refused(no, detail),
+        Field::Refused(no, detail) => Length::Refused(no, detail),
         Field::At(at, start, end) => put_field(ty, at, buffer, used, start, end, words, pool),
     }
 }

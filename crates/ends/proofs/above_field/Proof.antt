@@ -1,9 +1,9 @@
--- `above_field` meets its contract.
+-- Room is asked for the key and one byte; the FF stands behind the copy of the key.
 use mathlib.Core.Path.{ap}
 use mathlib.Core.List.{List}
-use Prim.Native.Nat.{ℕ, _+_, _-_}
-use lib.ListN.{length, getD, set}
-use Rattle.ends.proofs.TrimLaws.{s-none, s-room, s-done, a-room, a-done}
+use Prim.Native.Nat.{ℕ}
+use lib.ListN.{length, set}
+use Rattle.ends.proofs.TrimLaws.{a-room, a-done}
 use native.Mathlib.Omega.{arith}
 use borrow.Author.Needs.{needs}
 use Rattle.ends.proofs.above_field.Statement.{statement}
@@ -13,7 +13,9 @@ add-end : tie.Need-add-end
 add-end c = search needs
 
 returns : tie.Need-returns
-returns c = a-room (c .before .before .before .args .key .now) (c .before .before .before .args .out .now) (c .if1 .taken) (omega arith)
+returns c =
+    let a = c .before .before .before .args in
+    a-room (a .key .now) (a .out .now) (c .if1 .taken) (omega arith)
 
 copy-to-requires : tie.Need-copy-to-requires
 copy-to-requires c κs = search needs
@@ -25,7 +27,10 @@ same-length : tie.Need-same-length
 same-length c = search needs
 
 returns-2 : tie.Need-returns-2
-returns-2 c = a-done (c .before .before .before .before .before .before .before .args .key .now) (c .before .before .before .before .before .before .before .args .out .now) (omega arith) _ (ap (λ (l : List ℕ). set l (length (c .before .before .before .before .before .before .before .args .key .now)) 0xFF) (c .before .before .copy-to .ensures))
+returns-2 c =
+    let m = c .before .before in
+    let a = m .before .before .before .before .before .args in
+    a-done (a .key .now) (a .out .now) (omega arith) _ (ap (λ (l : List ℕ). set l (length (a .key .now)) 0xFF) (m .copy-to .ensures))
 
 pub above-field-spec : {M : Type 1} → statement M
 above-field-spec =

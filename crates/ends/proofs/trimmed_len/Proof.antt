@@ -1,5 +1,4 @@
--- `trimmed_len` meets its contract.
-use Prim.Native.Nat.{_-_}
+-- The prefix trims to what its first n bytes trim to; n falls by one FF at a time.
 use native.Mathlib.Omega.{arith}
 use Rattle.ends.proofs.TrimLaws.{Trimming, trim-start, trim-more, trim-stop, trim-none}
 use Rattle.ends.proofs.trimmed_len.Statement.{statement}

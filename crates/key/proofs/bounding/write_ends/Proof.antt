@@ -1,6 +1,5 @@
-use mathlib.Core.Path.{_≡_, refl, sym, ap, _∙_}
-use native.Mathlib.Omega.{arith}
-use lib.ListN.{length, take}
+-- Room for the lower end is asked first; above_field answers for the upper one and leaves it alone where it refuses, and then the lower one is copied.
+use mathlib.Core.Path.{sym}
 use lib.Seq.{length-take-le}
 use Rattle.key.proofs.EndLaws as laws
 use borrow.Author.Needs.{needs}
@@ -8,10 +7,12 @@ use Rattle.key.proofs.bounding.write_ends.Statement.{statement}
 use Rattle.key.proofs.bounding.write_ends.Tie as tie
 
 returns : tie.Need-returns
-returns c = let s = c .before .before .before .before in let a = s .args in let nx : a .n ≡ length (take (a .n) (a .key .now)) = sym (length-take-le (a .n) (a .key .now) (s .pre)) in laws.low-room (take (a .n) (a .key .now)) (a .lower .now) (a .upper .now) (a .n) nx (c .if1 .taken) (omega (arith, s .fits .n))
+returns c = search laws.low-room
 
 slice-aggregate-above-field : tie.Need-slice-aggregate-above-field
-slice-aggregate-above-field c = let s = c .before .before .before .before .before in let a = s .args in sym (length-take-le (a .n) (a .key .now) (s .pre))
+slice-aggregate-above-field c =
+    let s = c .before .before .before .before .before in
+    sym (length-take-le (s .args .n) (s .args .key .now) (s .pre))
 
 above-field-requires : tie.Need-above-field-requires
 above-field-requires c κs = search needs
@@ -29,7 +30,7 @@ same-length : tie.Need-same-length
 same-length c = search needs
 
 returns-2 : tie.Need-returns-2
-returns-2 c = let s = c .before .before .before .before .before .before .before .before .before .before .before .before in let a = s .args in let nx : a .n ≡ length (take (a .n) (a .key .now)) = sym (length-take-le (a .n) (a .key .now) (s .pre)) in laws.high-room (take (a .n) (a .key .now)) (a .lower .now) (a .upper .now) (a .n) nx (omega arith) _ _ _ (rw (c .before .no .given .1) at (c .before .before .before .before .before .above-field .ensures))
+returns-2 c = search laws.high-room
 
 same-length-2 : tie.Need-same-length-2
 same-length-2 c = search needs
@@ -38,7 +39,7 @@ same-length-3 : tie.Need-same-length-3
 same-length-3 c = search needs
 
 returns-3 : tie.Need-returns-3
-returns-3 c = let s = c .before .before .before .before .before .before .before .before .before .before .before .before .before .before .before .before in let a = s .args in let nx : a .n ≡ length (take (a .n) (a .key .now)) = sym (length-take-le (a .n) (a .key .now) (s .pre)) in laws.ends-done (take (a .n) (a .key .now)) (a .lower .now) (a .upper .now) (a .n) nx (omega arith) _ _ _ (rw (c .before .before .before .before .before .end .given .1) at (c .before .before .before .before .before .before .before .before .before .above-field .ensures)) (laws.copied (a .key .now) (a .lower .now) (a .n) _ nx (c .before .before .copy-to .ensures))
+returns-3 c = search laws.ends-done
 
 pub write-ends-spec : {M : Type 1} → statement M
 write-ends-spec =

@@ -1,10 +1,11 @@
+-- The walk over bare fields, with the place behind their types asked for: its refusal, or its two places.
 use Rattle.key.proofs.PassLaws as laws
 use borrow.Author.Needs.{needs}
 use Rattle.key.proofs.passing.pass_fields.Statement.{statement}
 use Rattle.key.proofs.passing.pass_fields.Tie as tie
 
-walk-bare-requires : tie.Need-walk-bare-requires
-walk-bare-requires c κs = search needs
+walk-fields-requires : tie.Need-walk-fields-requires
+walk-fields-requires c κs = search needs
 
 enum-known-no : tie.Need-enum-known-no
 enum-known-no c = search needs
@@ -13,11 +14,11 @@ enum-known-end : tie.Need-enum-known-end
 enum-known-end c = search needs
 
 returns : tie.Need-returns
-returns c = let a = c .before .before .before .before .before .before .args in laws.fields-refused (a .ty .now) (a .at) (a .n) (a .bytes .now) (a .i) (c .before .before .before .walk-bare .result) (c .before .before .before .walk-bare .ensures) _ _ _ (c .before .no .given .1)
+returns c = search laws.fields-refused
 
 returns-2 : tie.Need-returns-2
-returns-2 c = let a = c .before .before .before .before .before .before .args in laws.fields-to (a .ty .now) (a .at) (a .n) (a .bytes .now) (a .i) (c .before .before .before .walk-bare .result) (c .before .before .before .walk-bare .ensures) _ _ _ _ (c .before .end .given .1)
+returns-2 c = search laws.fields-to
 
 pub pass-fields-spec : {M : Type 1} → statement M
 pass-fields-spec =
-    tie.close (tie.spec walk-bare-requires enum-known-no enum-known-end returns returns-2)
+    tie.close (tie.spec walk-fields-requires enum-known-no enum-known-end returns returns-2)

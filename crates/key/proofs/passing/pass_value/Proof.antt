@@ -1,3 +1,4 @@
+-- The walk at depth 0, with the place behind the type asked for: its refusal, or its two places.
 use Rattle.key.proofs.PassLaws as laws
 use borrow.Author.Needs.{needs}
 use Rattle.key.proofs.passing.pass_value.Statement.{statement}
@@ -13,10 +14,10 @@ enum-known-end : tie.Need-enum-known-end
 enum-known-end c = search needs
 
 returns : tie.Need-returns
-returns c = let a = c .before .before .before .before .before .before .args in laws.value-refused (a .ty .now) (a .at) (a .bytes .now) (a .i) (c .before .before .before .walk-value .result) (c .before .before .before .walk-value .ensures) _ _ _ (c .before .no .given .1)
+returns c = search laws.value-refused
 
 returns-2 : tie.Need-returns-2
-returns-2 c = let a = c .before .before .before .before .before .before .args in laws.value-to (a .ty .now) (a .at) (a .bytes .now) (a .i) (c .before .before .before .walk-value .result) (c .before .before .before .walk-value .ensures) _ _ _ _ (c .before .end .given .1)
+returns-2 c = search laws.value-to
 
 pub pass-value-spec : {M : Type 1} → statement M
 pass-value-spec =

@@ -1,3 +1,4 @@
+-- The key's fields are its first k and the rest: the rest's types stand where the first end, and both parts decode where the key does.
 use native.Mathlib.Omega.{arith}
 use Rattle.key.proofs.SpanLaws as laws
 use borrow.Author.Needs.{needs}
@@ -5,7 +6,9 @@ use Rattle.key.proofs.passing.split_key.Statement.{statement}
 use Rattle.key.proofs.passing.split_key.Tie as tie
 
 pass-fields-requires : tie.Need-pass-fields-requires
-pass-fields-requires c κs = let s = c .before .before in let a = s .args in (laws.first-fields (a .ty .now) (a .n) (a .k) (s .pre .1) (s .pre .0), omega arith)
+pass-fields-requires c κs =
+    let s = c .before .before in
+    (laws.first-fields (s .pre .1) (s .pre .0), omega arith)
 
 enum-known-no : tie.Need-enum-known-no
 enum-known-no c = search needs
@@ -17,7 +20,12 @@ sub-pass-rest : tie.Need-sub-pass-rest
 sub-pass-rest c = search needs
 
 pass-rest-requires : tie.Need-pass-rest-requires
-pass-rest-requires c κs = let s = c .before .before .before .before .before .before in let a = s .args in (laws.rest-fields (a .ty .now) (a .n) (a .key .now) (a .k) (s .pre .1) _ _ (rw (c .before .a .given .1) at (c .before .before .before .pass-fields .ensures)) (s .pre .0), laws.start-in (a .ty .now) (a .n) (a .key .now) (a .k) (s .pre .1) _ _ (rw (c .before .a .given .1) at (c .before .before .before .pass-fields .ensures)) (s .pre .0))
+pass-rest-requires c κs =
+    let m = c .before .before .before in
+    let s = m .before .before .before in
+    let first = m .pass-fields .ensures in
+    let to = c .before .a .given .1 in
+    (laws.rest-fields (s .pre .1) first to (s .pre .0), laws.start-in (s .pre .1) first to (s .pre .0))
 
 enum-known-no-2 : tie.Need-enum-known-no-2
 enum-known-no-2 c = search needs
@@ -26,13 +34,13 @@ enum-told : tie.Need-enum-told
 enum-told c = search needs
 
 returns : tie.Need-returns
-returns c = let s = c .before .before .before .before .before .before in let a = s .args in laws.split-bad (a .ty .now) (a .n) (a .key .now) (a .k) (s .pre .1) _ _ (rw (c .before .no .given .1) at (c .before .before .before .pass-fields .ensures))
+returns c = search laws.split-bad
 
 returns-2 : tie.Need-returns-2
-returns-2 c = let s = c .before .before .before .before .before .before .before .before .before .before in let a = s .args in laws.split-rest-bad (a .ty .now) (a .n) (a .key .now) (a .k) (s .pre .1) _ _ (rw (c .before .before .before .before .before .a .given .1) at (c .before .before .before .before .before .before .before .pass-fields .ensures)) _ _ (rw (c .before .no2 .given .1) at (c .before .before .before .pass-rest .ensures))
+returns-2 c = search laws.split-rest-bad
 
 returns-3 : tie.Need-returns-3
-returns-3 c = let s = c .before .before .before .before .before .before .before .before .before in let a = s .args in laws.split-good (a .ty .now) (a .n) (a .key .now) (a .k) (s .pre .1) _ _ (rw (c .before .before .before .before .a .given .1) at (c .before .before .before .before .before .before .pass-fields .ensures)) (rw (c .enum-told .given .1) at (c .before .before .pass-rest .ensures))
+returns-3 c = search laws.split-good
 
 pub split-key-spec : {M : Type 1} → statement M
 split-key-spec =

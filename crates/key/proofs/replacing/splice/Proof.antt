@@ -1,4 +1,4 @@
-use native.Mathlib.Omega.{arith}
+-- The bytes behind the part are moved to where the value will end, and the value is written between; the write touches no byte of either side.
 use Rattle.key.proofs.SpliceLaws as laws
 use borrow.Author.Needs.{needs}
 use Rattle.key.proofs.replacing.splice.Statement.{statement}
@@ -20,7 +20,7 @@ same-length : tie.Need-same-length
 same-length c = search needs
 
 returns : tie.Need-returns
-returns c = let s = c .before .before .before .before .before .before .before .before .before .before .before in let a = s .args in laws.spliced-by (a .buffer .now) (a .used) (a .start) (a .end) (a .n) (a .words .now) (a .pool .now) _ _ (c .before .before .put-value .result) (s .pre) (c .before .before .before .before .before .before .move-within .ensures) (c .before .before .put-value .ensures .says)
+returns c = search laws.spliced-by
 
 pub splice-spec : {M : Type 1} → statement M
 splice-spec =
