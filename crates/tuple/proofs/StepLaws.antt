@@ -3,7 +3,7 @@ use mathlib.Core.Path.{_≡_, refl, ap, _∙_}
 use mathlib.Core.List.{List}
 use mathlib.Core.Bool.{Bool, true, false}
 use lib.Dec.{eqb}
-use borrow.Author.Tests.{ne-eqb}
+use borrow.Author.Tests.{ne-eqb, lt-ltb, le-ltb}
 use Rattle.format.specs.Answer.{if, Answer, ok, refused}
 use Rattle.format.specs.Cursor as cursor
 use Rattle.format.specs.Chars as chars
@@ -18,7 +18,14 @@ use Rattle.tuple.specs.declared.answers.Number.{Number}
 use Rattle.tuple.specs.declared.steps.CursorStep.{CursorStep}
 use Rattle.tuple.specs.declared.steps.CharStep.{CharStep}
 use Rattle.tuple.specs.declared.steps.PartStep.{PartStep}
-use Prim.Native.Nat.{ℕ}
+use Prim.Native.Nat.{ℕ, _<_, _≤_}
+
+-- a depth as the definition reads it
+pub deep-less : (c : cursor.Cursor) → c .depth < 256 → c .depth ≡ cursor.deep c
+deep-less c h = rw (lt-ltb (c .depth) 256 h)
+
+pub deep-more : (c : cursor.Cursor) → 256 ≤ c .depth → 256 ≡ cursor.deep c
+deep-more c h = rw (le-ltb (c .depth) 256 h)
 
 -- a step at one cursor is the step at an equal one
 pub at-cursor : {A B : Type 0} (f : cursor.Cursor → A) (g : A → B) (c d : cursor.Cursor) (a : A) (r : B) → r ≡ g a → a ≡ f c → c ≡ d → r ≡ g (f d)

@@ -3,7 +3,8 @@
 use mathlib.Core.Path.{_≡_}
 use mathlib.Core.List.{List, []}
 use mathlib.Core.Bool.{Bool}
-use Prim.Native.Nat.{ℕ, _<_, _≤_, Ordering, Ordering·lt, Ordering·eq, Ordering·gt}
+use Prim.Native.Nat.{ℕ, _+_, _<_, _≤_, Ordering, Ordering·lt, Ordering·eq, Ordering·gt}
+use lib.ListN.{length}
 use lib.IntN.{ℤ, pos, negsuc}
 use Rattle.format.specs.Answer.{Answer, ok, refused, BadLine}
 use Rattle.format.specs.Calls as calls
@@ -65,13 +66,16 @@ pub record Writes (c : calls.Called ℕ) (r : Length) (buffer : List ℕ) : Type
   pub answer : r ≡ lengthOf (c .answer)
   pub left : buffer ≡ c .buffer
 
-pub record Fills (c : calls.Filled) (r : Sheet) (words pool : List ℕ) : Type 0 where
+-- the values begun are at most the number of bytes plus 1
+pub record Fills (c : calls.Filled) (bytes : List ℕ) (r : Sheet) (words pool : List ℕ) : Type 0 where
   pub answer : r ≡ sheetOf (c .answer) (c .begun)
   pub left-words : words ≡ c .words
   pub left-pool : pool ≡ c .pool
+  pub few : c .begun ≤ length bytes + 1
 
-abbrev pub Checks : calls.Checked → Sheet → Type 0
-Checks c r = r ≡ checkedOf (c .answer) (c .begun)
+pub record Checks (c : calls.Checked) (bytes : List ℕ) (r : Sheet) : Type 0 where
+  pub answer : r ≡ checkedOf (c .answer) (c .begun)
+  pub few : c .begun ≤ length bytes + 1
 
 pub record Bounds (c : calls.Bounded) (r : Ends) (lower upper : List ℕ) : Type 0 where
   pub answer : r ≡ endsOf (c .answer)

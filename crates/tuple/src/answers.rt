@@ -1,24 +1,17 @@
 // Answers as numbers. Refusal 0 says that a call was accepted; what an answer does not give is 0.
 use decode::CheckedKey;
 use decode::Decoded;
-use encode::Encoded;
-use ends::Written;
 use key::Bounded;
-use key::Replaced;
 use order::Compared;
 use scalar::GotInt;
 use scalar::GotPart;
-use scalar::Put;
-use skip::Skipped;
 ghost use mathlib.Core.Path.{_≡_};
 ghost use Prim.Native.Nat.{Ordering·lt, Ordering·eq, Ordering·gt};
 ghost use Rattle.format.specs.Answer.{ok, refused};
-ghost use Rattle.scalar.specs.Answers.{gotInt, gotPart, putAnswer};
-ghost use Rattle.ends.specs.Ends.{writtenOf};
-ghost use Rattle.encode.specs.Encoded.{encodedOf};
-ghost use Rattle.skip.specs.Tokens.{skippedOf};
+ghost use Rattle.format.specs.Lengths.{lengthIn};
+ghost use Rattle.scalar.specs.Answers.{gotInt, gotPart};
 ghost use Rattle.order.specs.Compare.{comparedOf};
-ghost use Rattle.key.specs.Keys.{boundedOf, replacedOf};
+ghost use Rattle.key.specs.Keys.{boundedOf};
 ghost use Rattle.tuple.specs.Numbers.{lengthOf, sheetOf, endsOf, orderOf, numberOf, partOf, keyAt, scratchOf, sizes, ends, taken, decodedNumbers, checkedNumbers};
 
 // Bytes written, an end, a place or a used length.
@@ -243,48 +236,12 @@ fn no_part(no: u32, detail: u64) -> Part
     }
 }
 
-pub fn of_encoded(answer: Encoded) -> Length
-    ensures { λ r. ⌜ r ≡ lengthOf (encodedOf answer) ⌝ }
+pub fn of_length(answer: format::Length) -> Length
+    ensures { λ r. ⌜ r ≡ lengthOf (lengthIn answer) ⌝ }
 {
     match answer {
-        Encoded::Done(n) => to_length(n),
-        Encoded::Refused(no, detail) => no_length(no, detail),
-    }
-}
-
-pub fn of_written(answer: Written) -> Length
-    ensures { λ r. ⌜ r ≡ lengthOf (writtenOf answer) ⌝ }
-{
-    match answer {
-        Written::Done(n) => to_length(n),
-        Written::Refused(no, detail) => no_length(no, detail),
-    }
-}
-
-pub fn of_replaced(answer: Replaced) -> Length
-    ensures { λ r. ⌜ r ≡ lengthOf (replacedOf answer) ⌝ }
-{
-    match answer {
-        Replaced::Done(n) => to_length(n),
-        Replaced::Refused(no, detail) => no_length(no, detail),
-    }
-}
-
-pub fn of_skipped(answer: Skipped) -> Length
-    ensures { λ r. ⌜ r ≡ lengthOf (skippedOf answer) ⌝ }
-{
-    match answer {
-        Skipped::End(n) => to_length(n),
-        Skipped::Refused(no, detail) => no_length(no, detail),
-    }
-}
-
-pub fn of_put(answer: Put) -> Length
-    ensures { λ r. ⌜ r ≡ lengthOf (putAnswer answer) ⌝ }
-{
-    match answer {
-        Put::At(n) => to_length(n),
-        Put::Refused(no, detail) => no_length(no, detail),
+        format::Length::Done(n) => to_length(n),
+        format::Length::Refused(no, detail) => no_length(no, detail),
     }
 }
 

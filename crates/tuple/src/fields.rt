@@ -39,33 +39,33 @@ pub extern "C" fn tuple_get_bytes(bytes: &[u8], scratch: &mut [u8]) -> Part
 pub extern "C" fn tuple_put_i64(out: &mut [u8], at: usize, word: u64) -> Length
     ensures { λ r. ⌜ Writes (putI64Call (now (out .entry)) at word) r (now (out .exit)) ⌝ }
 {
-    answers::of_put(scalar::put_i64(out, at, word))
+    answers::of_length(scalar::put_i64(out, at, word))
 }
 
 #[no_mangle]
 pub extern "C" fn tuple_put_u64(out: &mut [u8], at: usize, number: u64) -> Length
     ensures { λ r. ⌜ Writes (putU64Call (now (out .entry)) at number) r (now (out .exit)) ⌝ }
 {
-    answers::of_put(scalar::put_u64(out, at, number))
+    answers::of_length(scalar::put_u64(out, at, number))
 }
 
 #[no_mangle]
 pub extern "C" fn tuple_put_str(out: &mut [u8], at: usize, text: &[u8]) -> Length
     ensures { λ r. ⌜ Writes (putStrCall (now (out .entry)) at (now (text .entry))) r (now (out .exit)) ⌝ }
 {
-    answers::of_put(scalar::put_str(out, at, text))
+    answers::of_length(scalar::put_str(out, at, text))
 }
 
 #[no_mangle]
 pub extern "C" fn tuple_put_bytes(out: &mut [u8], at: usize, payload: &[u8]) -> Length
     ensures { λ r. ⌜ Writes (putBytesCall (now (out .entry)) at (now (payload .entry))) r (now (out .exit)) ⌝ }
 {
-    answers::of_put(scalar::put_bytes(out, at, payload))
+    answers::of_length(scalar::put_bytes(out, at, payload))
 }
 
 #[no_mangle]
 pub extern "C" fn tuple_put_fact_id(out: &mut [u8], at: usize, raw: u64) -> Length
     ensures { λ r. ⌜ Writes (putFactIdCall (now (out .entry)) at raw) r (now (out .exit)) ⌝ }
 {
-    answers::of_put(scalar::put_fact_id(out, at, raw))
+    answers::of_length(scalar::put_fact_id(out, at, raw))
 }

@@ -11,7 +11,7 @@ ghost use Rattle.tuple.specs.Numbers.{lengthOf, orderOf, Writes, Bounds}
 pub extern "C" fn tuple_skip(bytes: &[u8], start: usize, require_escape_null: bool) -> Length
     ensures { λ r. ⌜ r ≡ lengthOf (skipCall (now (bytes .entry)) start «require_escape_null») ⌝ }
 {
-    answers::of_skipped(skip::skip(bytes, start, require_escape_null))
+    answers::of_length(skip::skip(bytes, start, require_escape_null))
 }
 
 #[no_mangle]
@@ -30,14 +30,14 @@ pub extern "C" fn tuple_compare(
 pub extern "C" fn tuple_strinc(prefix: &[u8], out: &mut [u8]) -> Length
     ensures { λ r. ⌜ Writes (strincCall (now (prefix .entry)) (now (out .entry))) r (now (out .exit)) ⌝ }
 {
-    answers::of_written(ends::strinc(prefix, out))
+    answers::of_length(ends::strinc(prefix, out))
 }
 
 #[no_mangle]
 pub extern "C" fn tuple_above_field(key: &[u8], out: &mut [u8]) -> Length
     ensures { λ r. ⌜ Writes (aboveFieldCall (now (key .entry)) (now (out .entry))) r (now (out .exit)) ⌝ }
 {
-    answers::of_written(ends::above_field(key, out))
+    answers::of_length(ends::above_field(key, out))
 }
 
 #[no_mangle]
@@ -64,5 +64,5 @@ pub extern "C" fn tuple_replace(
 ) -> Length
     ensures { λ r. ⌜ Writes (replaceCall (now (ty .entry)) (now (buffer .entry)) used field (now (words .entry)) (now (pool .entry))) r (now (buffer .exit)) ⌝ }
 {
-    answers::of_replaced(key::replace(ty, buffer, used, field, words, pool))
+    answers::of_length(key::replace(ty, buffer, used, field, words, pool))
 }

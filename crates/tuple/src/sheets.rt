@@ -14,14 +14,14 @@ pub extern "C" fn tuple_encode_typed(
 ) -> Length
     ensures { λ r. ⌜ Writes (encodeTypedCall (now (ty .entry)) (now (words .entry)) (now (pool .entry)) (now (out .entry))) r (now (out .exit)) ⌝ }
 {
-    answers::of_encoded(encode::encode_typed(ty, words, pool, out))
+    answers::of_length(encode::encode_typed(ty, words, pool, out))
 }
 
 #[no_mangle]
 pub extern "C" fn tuple_encode_key(ty: &[u32], words: &[u64], pool: &[u8], out: &mut [u8]) -> Length
     ensures { λ r. ⌜ Writes (encodeKeyCall (now (ty .entry)) (now (words .entry)) (now (pool .entry)) (now (out .entry))) r (now (out .exit)) ⌝ }
 {
-    answers::of_encoded(encode::encode_key(ty, words, pool, out))
+    answers::of_length(encode::encode_key(ty, words, pool, out))
 }
 
 #[no_mangle]
@@ -31,7 +31,7 @@ pub extern "C" fn tuple_decode_typed(
     words: &mut [u64],
     pool: &mut [u8],
 ) -> Sheet
-    ensures { λ r. ⌜ Fills (decodeTypedCall (now (ty .entry)) (now (bytes .entry)) (now (words .entry)) (now (pool .entry))) r (now (words .exit)) (now (pool .exit)) ⌝ }
+    ensures { λ r. ⌜ Fills (decodeTypedCall (now (ty .entry)) (now (bytes .entry)) (now (words .entry)) (now (pool .entry))) (now (bytes .entry)) r (now (words .exit)) (now (pool .exit)) ⌝ }
 {
     answers::of_decoded(decode::decode_typed(ty, bytes, words, pool))
 }
@@ -43,14 +43,14 @@ pub extern "C" fn tuple_decode_key(
     words: &mut [u64],
     pool: &mut [u8],
 ) -> Sheet
-    ensures { λ r. ⌜ Fills (decodeKeyCall (now (ty .entry)) (now (bytes .entry)) (now (words .entry)) (now (pool .entry))) r (now (words .exit)) (now (pool .exit)) ⌝ }
+    ensures { λ r. ⌜ Fills (decodeKeyCall (now (ty .entry)) (now (bytes .entry)) (now (words .entry)) (now (pool .entry))) (now (bytes .entry)) r (now (words .exit)) (now (pool .exit)) ⌝ }
 {
     answers::of_decoded(decode::decode_key(ty, bytes, words, pool))
 }
 
 #[no_mangle]
 pub extern "C" fn tuple_check_key(ty: &[u32], bytes: &[u8]) -> Sheet
-    ensures { λ r. ⌜ Checks (checkKeyCall (now (ty .entry)) (now (bytes .entry))) r ⌝ }
+    ensures { λ r. ⌜ Checks (checkKeyCall (now (ty .entry)) (now (bytes .entry))) (now (bytes .entry)) r ⌝ }
 {
     answers::of_checked(decode::check_key(ty, bytes))
 }

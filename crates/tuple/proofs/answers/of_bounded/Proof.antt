@@ -1,3 +1,4 @@
+-- Case by case: the numbers of the answer are those that its meaning has.
 use borrow.Author.Needs.{needs}
 use Rattle.tuple.proofs.answers.of_bounded.Statement.{statement}
 use Rattle.tuple.proofs.answers.of_bounded.Tie as tie

@@ -1,6 +1,7 @@
+-- Case by case: the numbers of the answer are those that its meaning has.
 use borrow.Author.Needs.{needs}
-use Rattle.tuple.proofs.answers.of_put.Statement.{statement}
-use Rattle.tuple.proofs.answers.of_put.Tie as tie
+use Rattle.tuple.proofs.answers.of_length.Statement.{statement}
+use Rattle.tuple.proofs.answers.of_length.Tie as tie
 
 enum-known-answer : tie.Need-enum-known-answer
 enum-known-answer c = search needs
@@ -20,8 +21,8 @@ returns c = rw (c .before .before .answer .given .1) (c .to-length .ensures)
 returns-2 : tie.Need-returns-2
 returns-2 c = rw (c .before .before .answer2 .given .1) (c .no-length .ensures)
 
-pub of-put-spec : {M : Type 1} → statement M
-of-put-spec =
+pub of-length-spec : {M : Type 1} → statement M
+of-length-spec =
     tie.close
     (tie.spec
     enum-known-answer

@@ -1,3 +1,4 @@
+-- The cursor made of the two numbers, the library's step, and its answer as numbers: what each promises, one after the other.
 use Rattle.format.specs.Cursor as cursor
 use Rattle.tuple.proofs.StepLaws as laws
 use Rattle.tuple.specs.StepNumbers as numbers

@@ -1,3 +1,4 @@
+-- The library's call, and its answer as numbers: what each promises, one after the other.
 use Rattle.tuple.proofs.Laws as laws
 use borrow.Author.Needs.{needs}
 use Rattle.tuple.proofs.fields.tuple_get_bytes.Statement.{statement}
@@ -14,8 +15,7 @@ same-length c = search needs
 
 returns : tie.Need-returns
 returns c =
-    let c3 = c .before .before .before in
-    laws.handed _ _ _ _ (c .of-part .ensures) (c3 .get-bytes .ensures)
+    laws.handed _ _ _ _ (c .of-part .ensures) (c .before .before .before .get-bytes .ensures)
 
 pub tuple-get-bytes-spec : {M : Type 1} → statement M
 tuple-get-bytes-spec = tie.close (tie.spec get-bytes-requires of-part-requires same-length returns)

@@ -1,3 +1,4 @@
+-- The library's call, and its answer as numbers: what each promises, one after the other.
 use mathlib.Core.Path.{ap, _∙_}
 use Rattle.tuple.specs.Numbers.{numberOf}
 use borrow.Author.Needs.{needs}

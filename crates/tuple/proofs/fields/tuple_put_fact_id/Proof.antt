@@ -1,3 +1,4 @@
+-- The library's call, and its answer as numbers: what each promises, one after the other.
 use Rattle.tuple.proofs.Laws as laws
 use borrow.Author.Needs.{needs}
 use Rattle.tuple.proofs.fields.tuple_put_fact_id.Statement.{statement}
@@ -6,17 +7,16 @@ use Rattle.tuple.proofs.fields.tuple_put_fact_id.Tie as tie
 put-fact-id-requires : tie.Need-put-fact-id-requires
 put-fact-id-requires c κs = search needs
 
-of-put-requires : tie.Need-of-put-requires
-of-put-requires c κs = search needs
+of-length-requires : tie.Need-of-length-requires
+of-length-requires c κs = search needs
 
 same-length : tie.Need-same-length
 same-length c = search needs
 
 returns : tie.Need-returns
 returns c =
-    let c3 = c .before .before .before in
-    laws.wrote _ _ _ _ (c .of-put .ensures) (c3 .put-fact-id .ensures)
+    laws.put _ _ _ _ (c .of-length .ensures) (c .before .before .before .put-fact-id .ensures)
 
 pub tuple-put-fact-id-spec : {M : Type 1} → statement M
 tuple-put-fact-id-spec =
-    tie.close (tie.spec put-fact-id-requires of-put-requires same-length returns)
+    tie.close (tie.spec put-fact-id-requires of-length-requires same-length returns)

@@ -1,3 +1,4 @@
+-- The library's call, and its answer as numbers: what each promises, one after the other.
 use Rattle.tuple.proofs.Laws as laws
 use borrow.Author.Needs.{needs}
 use Rattle.tuple.proofs.keys.tuple_bounds.Statement.{statement}

@@ -1,3 +1,4 @@
+-- The reader's step on slice, place and flag, and its answer as numbers: what each promises, one after the other.
 use Rattle.tuple.proofs.StepLaws as laws
 use borrow.Author.Needs.{needs}
 use Rattle.tuple.proofs.reader.tuple_chars_next.Statement.{statement}

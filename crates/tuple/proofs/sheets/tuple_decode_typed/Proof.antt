@@ -1,3 +1,4 @@
+-- The library's call, and its answer as numbers: what each promises, one after the other.
 use Rattle.tuple.proofs.Laws as laws
 use borrow.Author.Needs.{needs}
 use Rattle.tuple.proofs.sheets.tuple_decode_typed.Statement.{statement}
@@ -18,7 +19,7 @@ same-length-2 c = search needs
 returns : tie.Need-returns
 returns c =
     let c5 = c .before .before .before .before .before in
-    laws.filled _ (c5 .decode-typed .result) _ _ _ (c .of-decoded .ensures) (c5 .decode-typed .ensures)
+    laws.filled _ _ (c5 .decode-typed .result) _ _ _ (c .of-decoded .ensures) (c5 .decode-typed .ensures)
 
 pub tuple-decode-typed-spec : {M : Type 1} → statement M
 tuple-decode-typed-spec =

@@ -1,3 +1,4 @@
+-- The two numbers of the cursor are those that the definition reads.
 use borrow.Author.Needs.{needs}
 use Rattle.tuple.proofs.steps.cursor_at.Statement.{statement}
 use Rattle.tuple.proofs.steps.cursor_at.Tie as tie

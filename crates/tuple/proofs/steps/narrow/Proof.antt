@@ -1,5 +1,5 @@
-use Rattle.cursor.proofs.FieldSteps.{deep-less, deep-more}
-use Rattle.tuple.proofs.StepLaws.{cursorOf}
+-- A depth from 256 on is 256, as the definition reads it; below, the cast keeps it.
+use Rattle.tuple.proofs.StepLaws.{cursorOf, deep-less, deep-more}
 use borrow.Author.Needs.{needs}
 use Rattle.tuple.proofs.steps.narrow.Statement.{statement}
 use Rattle.tuple.proofs.steps.narrow.Tie as tie

@@ -1,3 +1,4 @@
+-- Case by case: the numbers of the step are those that its meaning has.
 use mathlib.Core.Path.{ap}
 use Rattle.tuple.proofs.StepLaws.{ended}
 use borrow.Author.Needs.{needs}

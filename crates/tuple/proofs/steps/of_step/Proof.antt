@@ -1,3 +1,4 @@
+-- Case by case: the numbers of the step are those that its meaning has.
 use borrow.Author.Needs.{needs}
 use Rattle.tuple.proofs.steps.of_step.Statement.{statement}
 use Rattle.tuple.proofs.steps.of_step.Tie as tie
