@@ -1,16 +1,13 @@
 // Runs each example of document 01's table that the whole-value calls can show, and its specimens of nested records and of the longest key.
 use decode::Decoded;
-use encode::Encoded;
-use ends::Written;
+use format::Length;
 use key::Bounded;
-use key::Replaced;
 use order::Compared;
-use skip::Skipped;
 
-fn encoded(r: Encoded, out: &[u8]) {
+fn encoded(r: Length, out: &[u8]) {
     match r {
-        Encoded::Refused(no, detail) => show::refusal(no, detail),
-        Encoded::Done(n) => show::line(out, n),
+        Length::Refused(no, detail) => show::refusal(no, detail),
+        Length::Done(n) => show::line(out, n),
     }
 }
 
@@ -65,8 +62,8 @@ fn decode_key_line(ty: &[u32], bytes: &[u8]) {
 
 fn skip_line(bytes: &[u8], start: usize, require_escape_null: bool) {
     match skip::skip(bytes, start, require_escape_null) {
-        Skipped::Refused(no, detail) => show::refusal(no, detail),
-        Skipped::End(n) => {
+        Length::Refused(no, detail) => show::refusal(no, detail),
+        Length::Done(n) => {
             show::text(b"end ");
             show::number(n as u64);
             show::text(b"\n");
@@ -99,8 +96,8 @@ fn bounds_line(ty: &[u32], key: &[u8], k: usize) {
 fn replace_line(field: usize, words: &[u64]) {
     let mut buffer = [0x53, 0x0a, 0, 0x49, 7, 0xee, 0xee];
     match key::replace(&[5, 2, 3, 1], &mut buffer, 5, field, words, b"") {
-        Replaced::Refused(no, detail) => show::refusal(no, detail),
-        Replaced::Done(n) => show::line(&buffer, n),
+        Length::Refused(no, detail) => show::refusal(no, detail),
+        Length::Done(n) => show::line(&buffer, n),
     }
     show::line(&buffer, 7);
 }
@@ -108,8 +105,8 @@ fn replace_line(field: usize, words: &[u64]) {
 fn strinc_line(prefix: &[u8]) {
     let mut out = [0u8; 8];
     match ends::strinc(prefix, &mut out) {
-        Written::Refused(no, detail) => show::refusal(no, detail),
-        Written::Done(n) => show::line(&out, n),
+        Length::Refused(no, detail) => show::refusal(no, detail),
+        Length::Done(n) => show::line(&out, n),
     }
 }
 
@@ -306,10 +303,10 @@ fn fill_words(words: &mut [u64]) {
     }
 }
 
-fn length_line(r: Encoded) {
+fn length_line(r: Length) {
     match r {
-        Encoded::Refused(no, detail) => show::refusal(no, detail),
-        Encoded::Done(len) => {
+        Length::Refused(no, detail) => show::refusal(no, detail),
+        Length::Done(len) => {
             show::text(b"bytes ");
             show::number(len as u64);
             show::text(b"\n");

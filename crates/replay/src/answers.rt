@@ -89,19 +89,14 @@ pub fn wrote(line: &[u8], first: usize, a: Length, at: usize, buf: &[u8; 72000])
         )
 }
 
-// A payload: in the scratch buffer, or in the bytes from a place on. The scratch buffer is touched only where it holds the payload.
+// A payload that was picked. The scratch buffer is touched only where it holds one, which is source 2.
 pub fn held(
     line: &[u8],
     number: usize,
     source: u32,
-    at: u64,
-    len: u64,
-    bytes: &[u8],
+    payload: &[u8],
     scratch: &[u8; 72000],
 ) -> bool {
-    if source == 2 {
-        return written(line, number, 0, len as usize, scratch);
-    }
-    let end = std::num::wrapping_add_u64(at, len);
-    lines::is_bytes(line, number, at as usize, end as usize, bytes) & untouched(scratch, 0, 0)
+    let used = if source == 2 { payload.len() } else { 0 };
+    lines::is_bytes(line, number, 0, payload.len(), payload) & untouched(scratch, 0, used)
 }

@@ -2,6 +2,8 @@
 // is_record_end: bytes place depth = refusal detail ends 0. take_str, take_bytes: bytes place depth room-of-scratch = refusal detail source place-of-the-part
 // length place depth payload. put_null, put_record, put_end: room place depth; put_union: room place depth discriminant = refusal detail 0 place depth bytes.
 use crate::answers;
+use cursor::Cursor;
+use cursor::TakenPart;
 use tuple::cursors;
 use tuple::steps::CursorStep;
 use tuple::steps::PartStep;
@@ -34,7 +36,21 @@ pub fn record_end(line: &[u8], bytes: &[u8]) -> bool {
     answers::is_number(line, 5, a)
 }
 
-fn taken(line: &[u8], s: PartStep, bytes: &[u8], scratch: &[u8; 72000]) -> bool {
+// Where the payload is, for the picker.
+fn part(s: PartStep) -> TakenPart {
+    let c = Cursor {
+        at: s.at as usize,
+        depth: narrow(s.depth as usize),
+    };
+    let source = s.source;
+    match source {
+        1 => TakenPart::InKey(s.part as usize, s.len as usize, c),
+        2 => TakenPart::InScratch(s.len as usize, c),
+        _ => TakenPart::Refused(s.refusal, s.detail),
+    }
+}
+
+fn taken<'a>(line: &[u8], s: PartStep, bytes: &'a [u8], scratch: &'a [u8; 72000]) -> bool {
     lines::are_decimals(
         line,
         6,
@@ -48,7 +64,13 @@ fn taken(line: &[u8], s: PartStep, bytes: &[u8], scratch: &[u8; 72000]) -> bool 
             s.depth,
         ],
     )
-        & answers::held(line, 13, s.source, s.part, s.len, bytes, scratch)
+        & answers::held(
+            line,
+            13,
+            s.source,
+            cursor::payload(bytes, scratch, part(s)),
+            scratch,
+        )
 }
 
 pub fn take(line: &[u8], text: bool, bytes: &[u8]) -> bool {
@@ -89,7 +111,7 @@ pub fn put(line: &[u8], call: usize) -> bool {
     wrote(line, 5, s, &out)
 }
 
-// The list's discriminants are below 2^32; another disagrees with its line.
+// The list's discriminants are below 2^32, and a depth is; another disagrees with its line.
 fn narrow(n: usize) -> u32 {
     if n < 0x1_0000_0000 {
         return n as u32;

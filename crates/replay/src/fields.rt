@@ -1,6 +1,7 @@
 // get_i64, get_u64: bytes = refusal detail value used. get_str, get_bytes: bytes room-of-scratch = refusal detail source place length used payload.
 // put_i64, put_u64, put_fact_id: room place word; put_str, put_bytes: room place bytes = refusal detail place-behind bytes.
 use crate::answers;
+use scalar::GotPart;
 use tuple::answers::Part;
 use tuple::fields;
 
@@ -13,7 +14,17 @@ pub fn integer(line: &[u8], signed: bool, bytes: &[u8]) -> bool {
     answers::is_number(line, 3, a)
 }
 
-fn handed(line: &[u8], a: Part, bytes: &[u8], scratch: &[u8; 72000]) -> bool {
+// Where the payload is, for the picker.
+fn part(a: Part) -> GotPart {
+    let source = a.source;
+    match source {
+        1 => GotPart::InKey(a.at as usize, a.len as usize, a.used as usize),
+        2 => GotPart::InScratch(a.len as usize, a.used as usize),
+        _ => GotPart::Refused(a.refusal, a.detail),
+    }
+}
+
+fn handed<'a>(line: &[u8], a: Part, bytes: &'a [u8], scratch: &'a [u8; 72000]) -> bool {
     lines::are_decimals(
         line,
         4,
@@ -26,7 +37,13 @@ fn handed(line: &[u8], a: Part, bytes: &[u8], scratch: &[u8; 72000]) -> bool {
             a.used,
         ],
     )
-        & answers::held(line, 10, a.source, a.at, a.len, bytes, scratch)
+        & answers::held(
+            line,
+            10,
+            a.source,
+            scalar::payload(bytes, scratch, part(a)),
+            scratch,
+        )
 }
 
 pub fn payload(line: &[u8], text: bool, bytes: &[u8]) -> bool {

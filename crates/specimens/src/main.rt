@@ -1,16 +1,15 @@
 // Runs the specimens of document 01 that need single fields and sheets alone, and prints what the code answers: bytes in hexadecimal, or refusal and detail.
-use ends::Written;
+use format::Length;
 use scalar::GotInt;
 use scalar::GotPart;
-use scalar::Put;
 use scalar::UnionTag;
 
 // An integer written into a buffer of its own.
 fn int_line(w: u64) {
     let mut buf = [0u8; 9];
     match scalar::put_i64(&mut buf, 0, w) {
-        Put::Refused(no, detail) => show::refusal(no, detail),
-        Put::At(n) => show::line(&buf, n),
+        Length::Refused(no, detail) => show::refusal(no, detail),
+        Length::Done(n) => show::line(&buf, n),
     }
 }
 
@@ -30,29 +29,27 @@ fn get_line(s: &[u8]) {
 fn str_line(s: &[u8]) {
     let mut buf = [0u8; 16];
     match scalar::put_str(&mut buf, 0, s) {
-        Put::Refused(no, detail) => show::refusal(no, detail),
-        Put::At(n) => show::line(&buf, n),
+        Length::Refused(no, detail) => show::refusal(no, detail),
+        Length::Done(n) => show::line(&buf, n),
     }
 }
 
 // A string read: its payload, in the key or in the scratch buffer.
 fn text_line(key: &[u8], scratch: &mut [u8]) {
-    match scalar::get_str(key, scratch) {
-        GotPart::Refused(no, detail) => show::refusal(no, detail),
-        GotPart::InKey(a, n, _) => {
-            if a <= key.len() {
-                show::line(&key[a..], n);
-            }
-        }
-        GotPart::InScratch(n, _) => show::line(scratch, n),
+    let got = scalar::get_str(key, scratch);
+    if let GotPart::Refused(no, detail) = got {
+        show::refusal(no, detail);
+        return;
     }
+    let payload = scalar::payload(key, scratch, got);
+    show::line(payload, payload.len());
 }
 
 fn strinc_line(prefix: &[u8]) {
     let mut buf = [0u8; 8];
     match ends::strinc(prefix, &mut buf) {
-        Written::Refused(no, detail) => show::refusal(no, detail),
-        Written::Done(n) => show::line(&buf, n),
+        Length::Refused(no, detail) => show::refusal(no, detail),
+        Length::Done(n) => show::line(&buf, n),
     }
 }
 

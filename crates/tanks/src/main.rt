@@ -2,10 +2,8 @@
 // both keys, the ends that the bounds call gives for the first one's first field, which of the two keys lies between them, and which would
 // with strinc as the upper end.
 use blocks::Order;
-use encode::Encoded;
-use ends::Written;
+use format::Length;
 use key::Bounded;
-use key::Replaced;
 
 fn below(a: &[u8], b: &[u8]) -> bool {
     match blocks::compare(a, b) {
@@ -46,8 +44,8 @@ fn strinc_line(a: &[u8], b: &[u8], lower: &[u8]) {
     let mut upper = [0u8; 32];
     show::text(b"  strinc ");
     match ends::strinc(lower, &mut upper) {
-        Written::Refused(no, detail) => show::refusal(no, detail),
-        Written::Done(n) => ends_line(a, b, lower, show::first(&upper, n)),
+        Length::Refused(no, detail) => show::refusal(no, detail),
+        Length::Done(n) => ends_line(a, b, lower, show::first(&upper, n)),
     }
 }
 
@@ -67,11 +65,11 @@ fn bounds_line(ty: &[u32], a: &[u8], b: &[u8], k: usize) {
 // A key's length in its buffer, 0 for a refused one, which is printed.
 fn key_len(ty: &[u32], words: &[u64], pool: &[u8], out: &mut [u8]) -> usize {
     match encode::encode_key(ty, words, pool, out) {
-        Encoded::Refused(no, detail) => {
+        Length::Refused(no, detail) => {
             show::refusal(no, detail);
             0
         }
-        Encoded::Done(n) => n,
+        Length::Done(n) => n,
     }
 }
 
@@ -91,8 +89,8 @@ fn pair(ty: &[u32], words_a: &[u64], pool_a: &[u8], words_b: &[u64], pool_b: &[u
 fn renamed() {
     let mut buffer = [0x53, 0x0a, 0, 0x49, 7, 0xee, 0xee, 0xee];
     match key::replace(&[5, 2, 3, 1], &mut buffer, 5, 0, &[3, 2], b"\x0a\x00") {
-        Replaced::Refused(no, detail) => show::refusal(no, detail),
-        Replaced::Done(n) => {
+        Length::Refused(no, detail) => show::refusal(no, detail),
+        Length::Done(n) => {
             show::text(b"  buffer ");
             show::line(&buffer, 8);
             bounds_line(
