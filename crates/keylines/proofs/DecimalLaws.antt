@@ -1,10 +1,9 @@
 -- Laws of decimal digits, and of putting them into a buffer.
 use mathlib.Core.Path.{_≡_, refl, sym, ap, subst, _∙_}
 use mathlib.Core.Bool.{Bool, true, false}
-use mathlib.Core.List.{List, [], _∷_, _++_, append-assoc}
-use Prim.Native.Nat.{ℕ, zero, suc, _+_, _-_, _*_, _/_, _%_, _^_, _≤_, _<_}
+use mathlib.Core.List.{List, [], _∷_, _++_}
+use Prim.Native.Nat.{ℕ, zero, suc, _+_, _-_, _/_, _%_, _^_, _≤_, _<_}
 use native.Mathlib.Omega.{arith}
-use native.Mathlib.Numerals.{add-one}
 use native.Mathlib.Nat.{div-lt-self, div-lt-iff-lt-mul, mod-lt, pow-suc}
 use borrow.Author.Tests.{lt-ltb, le-ltb}
 use lib.Dec.{ltb, lit<}
@@ -68,8 +67,8 @@ pub put-byte : (l : List ℕ) (at x : ℕ) → Put l (set l at x) at (at + 1) (x
 put-byte l at x = record { stored = refl; end = refl; long = length-set l at x }
 
 -- bytes, and then others behind them
-pub put-both : (l m k : List ℕ) (at i j : ℕ) (xs ys : List ℕ) → Put l m at i xs → Put m k i j ys → Put l k at j (xs ++ ys)
-put-both l m k at i j xs ys p q =
+pub put-both : {l m k : List ℕ} {at i j : ℕ} {xs ys : List ℕ} → Put l m at i xs → Put m k i j ys → Put l k at j (xs ++ ys)
+put-both {l} {m} {k} {at} {i} {j} {xs} {ys} p q =
     record {
       stored = q .stored ∙ (λ t. sets (p .stored t) (p .end t) ys) ∙ sets-append l at xs ys;
       end = omega (arith, p .end, q .end, length-append xs ys);
@@ -77,18 +76,17 @@ put-both l m k at i j xs ys p q =
     }
 
 -- what is put is what is due
-pub put-is : (l m : List ℕ) (at r : ℕ) (xs ys : List ℕ) → xs ≡ ys → Put l m at r xs → Put l m at r ys
-put-is l m at r xs ys e p = subst (Put l m at r) e p
+pub put-is : {l m : List ℕ} {at r : ℕ} {xs ys : List ℕ} → xs ≡ ys → Put l m at r xs → Put l m at r ys
+put-is {l} {m} {at} {r} e p = subst (Put l m at r) e p
 
 -- ---- a number
 
-pub put-one : (out : List ℕ) (at n x : ℕ) → n < 10 → x ≡ n → Put out (set out at (48 + x)) at (at + 1) (decimal n)
-put-one out at n x h e = put-is _ _ _ _ _ _ (ap (λ (y : ℕ). (48 + y) ∷ []) e ∙ sym (decimal-one n h)) (put-byte out at (48 + x))
+pub put-one : {out : List ℕ} {at n x : ℕ} → n < 10 → x ≡ n → Put out (set out at (48 + x)) at (at + 1) (decimal n)
+put-one {out} {at} {n} {x} h e = put-is (ap (λ (y : ℕ). (48 + y) ∷ []) e ∙ sym (decimal-one n h)) (put-byte out at (48 + x))
 
-pub put-more : (out mid : List ℕ) (at end n x : ℕ) → 10 ≤ n → Put out mid at end (decimal (n / 10)) → x ≡ n % 10 → Put out (set mid end (48 + x)) at (end + 1) (decimal n)
-put-more out mid at end n x h p e =
-    put-is _ _ _ _ _ _ (ap (λ (y : ℕ). decimal (n / 10) ++ (48 + y) ∷ []) e ∙ sym (decimal-more n h))
-    (put-both out mid (set mid end (48 + x)) at end (end + 1) (decimal (n / 10)) ((48 + x) ∷ []) p (put-byte mid end (48 + x)))
+pub put-more : {out mid : List ℕ} {at end n x : ℕ} → 10 ≤ n → Put out mid at end (decimal (n / 10)) → x ≡ n % 10 → Put out (set mid end (48 + x)) at (end + 1) (decimal n)
+put-more {out} {mid} {at} {end} {n} {x} h p e =
+    put-is (ap (λ (y : ℕ). decimal (n / 10) ++ (48 + y) ∷ []) e ∙ sym (decimal-more n h)) (put-both p (put-byte mid end (48 + x)))
 
 -- its room
 pub room-one : (n : ℕ) → n < 10 → length (decimal n) ≡ 1

@@ -1,7 +1,8 @@
--- Laws of the parser and the printer, one for each way out of a function.
+-- Laws of the parser and the printer, one for each way out of a function; what the calls write together.
 pub mod TextLaws
 pub mod PairLaws
 pub mod WordLaws
 pub mod DecimalLaws
 pub mod RowLaws
-pub mod AnswerLaws
+pub mod FirstLaws
+pub mod CallLaws

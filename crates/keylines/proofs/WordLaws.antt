@@ -1,24 +1,24 @@
--- Laws of type words.
+-- Laws of type words, and of where the first bad one stands.
 use mathlib.Core.Path.{_≡_, refl, sym, ap, _∙_}
 use mathlib.Core.Bool.{Bool, true, false}
 use mathlib.Core.List.{List, [], _∷_, _++_, append-nil}
 use mathlib.Core.Option.{Option, some, none}
 use Prim.Native.Nat.{ℕ, zero, suc, _+_, _-_, _*_, _^_, _≤_, _<_}
 use native.Mathlib.Omega.{arith}
-use borrow.Author.Tests.{lt-ltb, le-ltb, le-leb, lt-leb, ltb-true, ltb-false}
-use lib.Dec.{ltb, leb}
+use borrow.Author.Tests.{lt-ltb, le-ltb}
+use lib.Dec.{ltb}
 use lib.ListN.{length, take, drop, getD, set, length-append, length-set, drop-of-length-le}
-use lib.Seq.{length-take-le}
 use Rattle.format.specs.Answer.{if}
 use Rattle.format.specs.Utf8.{within}
-use Rattle.format.specs.TypeSheet.{keep}
+use Rattle.format.specs.TypeSheet.{keep, isSome}
 use Rattle.format.specs.Keylist.{add, below, decimalFrom, partsOf, wordOf, wordsOf, typeIn}
 use Rattle.format.proofs.SheetPlaces.{front}
-use Rattle.keylines.specs.Answers.{Found, fitting, wordsIs, wordIs}
+use Rattle.format.proofs.Tests.{Test, holds, fails, ltb-test}
+use Rattle.keylines.specs.Reasons.{badWord}
+use Rattle.keylines.specs.Answers.{Counts, Found, wordIs, TooMany}
 use Rattle.keylines.specs.declared.types.Word.{Word}
-use Rattle.keylines.specs.declared.types.Words.{Words}
 use Rattle.keylines.proofs.TextLaws.{part-here, part-left}
-use Rattle.keylines.proofs.PairLaws.{ahead, ahead-nothing, ahead-more, low-within, high-within, in-within}
+use Rattle.keylines.proofs.PairLaws.{ahead, ahead-nothing, ahead-snoc, take-more, counts, low-within, high-within, in-within}
 
 -- ---- a word
 
@@ -64,31 +64,6 @@ pub record DigitsRead (s : List ℕ) (n i : ℕ) : Type 0 where
   pub small : n < 4294967296
   pub read : decimalFrom 0 s ≡ decimalFrom n (drop i s)
 
-module _ (s : List ℕ) (n i : ℕ) (v : DigitsRead s n i) where
-  is : wordOf s ≡ below (2 ^ 32) (decimalFrom n (drop i s))
-  unfolding wordOf
-  is = ap (λ (t : Bool). keep t (below (2 ^ 32) (decimalFrom 0 s))) (in-within 1 10 (length s) (v .some-digits) (v .few)) ∙ ap (below (2 ^ 32)) (v .read)
-
-  pub word-low : i < length s → getD s i 0 < 48 → none ≡ wordOf s
-  word-low h k = sym (is ∙ ap (λ (l : List ℕ). below (2 ^ 32) (decimalFrom n l)) (front s i h) ∙ ap (below (2 ^ 32)) (from-low n _ _ k))
-
-  pub word-high : i < length s → 57 < getD s i 0 → none ≡ wordOf s
-  word-high h k = sym (is ∙ ap (λ (l : List ℕ). below (2 ^ 32) (decimalFrom n l)) (front s i h) ∙ ap (below (2 ^ 32)) (from-high n _ _ k))
-
-  pub word-end : length s ≤ i → some n ≡ wordOf s
-  word-end h =
-      sym (is ∙ ap (λ (l : List ℕ). below (2 ^ 32) (decimalFrom n l)) (drop-of-length-le s h) ∙ ap (below (2 ^ 32)) (from-nil n) ∙ ap (λ (t : Bool). if t (some n) none) (lt-ltb n (2 ^ 32) (v .small)))
-
-  module _ (h : i < length s) (k : 48 ≤ getD s i 0) (l : getD s i 0 ≤ 57) (d : ℕ) (e : d ≡ getD s i 0 - 48) where
-    on : decimalFrom n (drop i s) ≡ decimalFrom (n * 10 + d) (drop (i + 1) s)
-    on = ap (decimalFrom n) (front s i h) ∙ from-digit n _ _ k l ∙ ap (λ (x : ℕ). decimalFrom (n * 10 + x) (drop (i + 1) s)) (sym e)
-
-    pub word-large : 4294967295 < n * 10 + d → none ≡ wordOf s
-    word-large large = sym (is ∙ ap (below (2 ^ 32)) on ∙ from-large (2 ^ 32) (n * 10 + d) (drop (i + 1) s) large)
-
-    pub word-next : n * 10 + d ≤ 4294967295 → DigitsRead s (n * 10 + d) (i + 1)
-    word-next small = record { place = omega arith; some-digits = v .some-digits; few = v .few; small = omega arith; read = v .read ∙ on }
-
 pub word-start : (s : List ℕ) → (length s ≡ 0 → ⊥) → length s ≤ 10 → DigitsRead s 0 0
 word-start s h k = record { place = omega arith; some-digits = go (length s) h; few = k; small = omega arith; read = refl }
   where
@@ -96,26 +71,32 @@ word-start s h k = record { place = omega arith; some-digits = go (length s) h; 
     go zero h = absurd (h refl)
     go (suc m) h = omega arith
 
+module _ {s : List ℕ} {n i : ℕ} (v : DigitsRead s n i) where
+  -- a word is what is left makes of the number read
+  is : (o : Option ℕ) → decimalFrom n (drop i s) ≡ o → below (2 ^ 32) o ≡ wordOf s
+  unfolding wordOf
+  is o e = sym (ap (λ (t : Bool). keep t (below (2 ^ 32) (decimalFrom 0 s))) (in-within 1 10 (length s) (v .some-digits) (v .few)) ∙ ap (below (2 ^ 32)) (v .read ∙ e))
+
+  pub word-low : i < length s → getD s i 0 < 48 → none ≡ wordOf s
+  word-low h k = is none (ap (decimalFrom n) (front s i h) ∙ from-low n _ _ k)
+
+  pub word-high : i < length s → 57 < getD s i 0 → none ≡ wordOf s
+  word-high h k = is none (ap (decimalFrom n) (front s i h) ∙ from-high n _ _ k)
+
+  pub word-end : length s ≤ i → some n ≡ wordOf s
+  word-end h = ap (λ (t : Bool). if t (some n) none) (sym (lt-ltb n (2 ^ 32) (v .small))) ∙ is (some n) (ap (decimalFrom n) (drop-of-length-le s h) ∙ from-nil n)
+
+  module _ (h : i < length s) (k : 48 ≤ getD s i 0) (l : getD s i 0 ≤ 57) {d : ℕ} (e : d ≡ getD s i 0 - 48) where
+    on : decimalFrom n (drop i s) ≡ decimalFrom (n * 10 + d) (drop (i + 1) s)
+    on = ap (decimalFrom n) (front s i h) ∙ from-digit n _ _ k l ∙ ap (λ (x : ℕ). decimalFrom (n * 10 + x) (drop (i + 1) s)) (sym e)
+
+    pub word-large : 4294967295 < n * 10 + d → none ≡ wordOf s
+    word-large large = sym (from-large (2 ^ 32) (n * 10 + d) (drop (i + 1) s) large) ∙ is _ on
+
+    pub word-next : n * 10 + d ≤ 4294967295 → DigitsRead s (n * 10 + d) (i + 1)
+    word-next small = record { place = omega arith; some-digits = v .some-digits; few = v .few; small = omega arith; read = v .read ∙ on }
+
 -- ---- words
-
--- n words of the text are read into the buffer, and the text from start on is left
-pub record WordsTaken (text ty : List ℕ) (start n : ℕ) : Type 0 where
-  pub place : start ≤ length text
-  pub room : n ≤ length ty
-  pub read : typeIn text ≡ ahead (take n ty) (typeIn (drop start text))
-
-pub words-start : (text ty : List ℕ) → WordsTaken text ty 0 0
-words-start text ty = record { place = omega arith; room = omega arith; read = sym (ahead-nothing (typeIn text)) }
-
--- a line has one word at least
-words-longer : (m : ℕ) (xs : List ℕ) (w : Option ℕ) (o : Option (List ℕ)) → m ≤ length xs → fitting m (ahead xs (add w o)) ≡ none
-words-longer m xs (some x) (some ys) h = rw (length-append xs (x ∷ ys), lt-leb (length xs + suc (length ys)) m (omega arith))
-words-longer m xs (some x) none h = refl
-words-longer m xs none o h = refl
-
--- as many as stand at the front of the buffer
-words-fit : (m n : ℕ) (ty : List ℕ) → n ≤ m → n ≤ length ty → fitting m (some (take n ty)) ≡ some (take n ty)
-words-fit m n ty h k = rw (length-take-le n ty k, le-leb n m h)
 
 words-one : (p : List ℕ) (ps : List (List ℕ)) → wordsOf (p ∷ ps) ≡ add (wordOf p) (wordsOf ps)
 unfolding wordsOf
@@ -125,57 +106,97 @@ words-none : wordsOf [] ≡ some []
 unfolding wordsOf
 words-none = refl
 
-module _ (text ty : List ℕ) (start n r : ℕ) (v : WordsTaken text ty start n) (f : Found text start 9 r) where
-  -- the word found, and those behind it
-  split : (o : Option (List ℕ)) × (typeIn (drop start text) ≡ add (wordOf (take (r - start) (drop start text))) o)
-  unfolding typeIn
-  split = go (ltb r (length text)) refl
+bad-one : (place : ℕ) (p : List ℕ) (ps : List (List ℕ)) → badWord place (p ∷ ps) ≡ if (isSome (wordOf p)) (badWord (place + 1) ps) (some place)
+unfolding badWord
+bad-one place p ps = refl
+
+-- n words of the text are read, as many as fit stand in the buffer, and the text from start on is left
+pub record WordsTaken (text ty : List ℕ) (start n : ℕ) : Type 0 where
+  pub words : List ℕ
+  pub count : n ≡ length words
+  pub place : start ≤ length text
+  pub few : n ≤ start
+  pub stored : n ≤ length ty → take n ty ≡ words
+  pub read : typeIn text ≡ ahead words (typeIn (drop start text))
+  pub judged : badWord 1 (partsOf text) ≡ badWord (n + 1) (partsOf (drop start text))
+
+pub words-start : (text ty : List ℕ) → WordsTaken text ty 0 0
+words-start text ty =
+    record { words = []; count = refl; place = omega arith; few = omega arith; stored = λ _. refl; read = sym (ahead-nothing (typeIn text)); judged = refl }
+
+-- all of them
+pub record AllTaken (text ty : List ℕ) (n : ℕ) : Type 0 where
+  pub words : List ℕ
+  pub count : n ≡ length words
+  pub stored : n ≤ length ty → take n ty ≡ words
+  pub are : typeIn text ≡ some words
+
+pub all-many : {text ty : List ℕ} {n : ℕ} → AllTaken text ty n → length ty < n → TooMany text ty
+all-many v h = record { words = v .words; are = v .are; many = omega (arith, v .count) }
+
+pub all-fit : {text ty : List ℕ} {n : ℕ} → AllTaken text ty n → n ≤ length ty → (typeIn text ≡ some (take n ty)) × Counts n ty
+all-fit {text} {ty} {n} v h = (v .are ∙ ap some (sym (v .stored h)), counts n ty h)
+
+module _ {text ty : List ℕ} {start n r : ℕ} (v : WordsTaken text ty start n) (f : Found text start 9 r) where
+  abbrev part : List ℕ
+  part = take (r - start) (drop start text)
+
+  -- the part found, and those behind it
+  behind : (ps : List (List ℕ)) × (partsOf (drop start text) ≡ part ∷ ps)
+  behind = go (ltb r (length text)) (ltb-test r (length text))
     where
-      go : (t : Bool) → ltb r (length text) ≡ t → (o : Option (List ℕ)) × (wordsOf (partsOf (drop start text)) ≡ add (wordOf (take (r - start) (drop start text))) o)
-      go true e = (wordsOf (partsOf (drop (r + 1) text)), ap wordsOf (part-here text start r f (omega (arith, ltb-true r (length text) e))) ∙ words-one _ _)
-      go false e = (wordsOf [], ap wordsOf (part-left text start r f (omega (arith, ltb-false r (length text) e))) ∙ words-one _ _)
+      go : (t : Bool) → Test (r < length text) (length text ≤ r) t → (ps : List (List ℕ)) × (partsOf (drop start text) ≡ part ∷ ps)
+      go true (holds q) = (_, part-here f q)
+      go false (fails q) = (_, part-left f (omega (arith, f .within)))
 
-  pub words-bad : (w : Word) → wordIs w ≡ wordOf (take (r - start) (drop start text)) → w ≡ Word.Bad → none ≡ fitting (length ty) (typeIn text)
-  words-bad w e h =
-      let no : wordOf (take (r - start) (drop start text)) ≡ none = sym e ∙ ap wordIs h in
-      sym (ap (fitting (length ty)) (v .read ∙ ap (ahead (take n ty)) (split .1 ∙ ap (λ (x : Option ℕ). add x (split .0)) no)))
+  module _ {w : Word} (e : wordIs w ≡ wordOf part) where
+    pub words-bad : w ≡ Word.Bad → badWord 1 (partsOf text) ≡ some (n + 1)
+    words-bad h =
+        v .judged ∙ ap (badWord (n + 1)) (behind .1) ∙ bad-one (n + 1) part (behind .0)
+        ∙ ap (λ (o : Option ℕ). if (isSome o) (badWord (n + 1 + 1) (behind .0)) (some (n + 1))) (sym e ∙ ap wordIs h)
 
-  pub words-full : length ty ≤ n → none ≡ fitting (length ty) (typeIn text)
-  words-full h =
-      sym (ap (fitting (length ty)) (v .read ∙ ap (ahead (take n ty)) (split .1))
-      ∙ words-longer (length ty) (take n ty) (wordOf (take (r - start) (drop start text))) (split .0) (omega (arith, length-take-le n ty (v .room))))
+    module _ {x : ℕ} (h : w ≡ Word.Is x) where
+      its : wordOf part ≡ some x
+      its = sym e ∙ ap wordIs h
 
-  module _ (x : ℕ) (w : Word) (e : wordIs w ≡ wordOf (take (r - start) (drop start text))) (h : w ≡ Word.Is x) (room : n < length ty) where
-    its : wordOf (take (r - start) (drop start text)) ≡ some x
-    its = sym e ∙ ap wordIs h
+      -- the words with this one, and what is left
+      more : (ps : List (List ℕ)) → partsOf (drop start text) ≡ part ∷ ps → typeIn text ≡ ahead (v .words ++ (x ∷ [])) (wordsOf ps)
+      unfolding typeIn
+      more ps k =
+          v .read
+          ∙ ap (ahead (v .words)) (ap wordsOf k ∙ words-one part ps ∙ ap (λ (o : Option ℕ). add o (wordsOf ps)) its)
+          ∙ ahead-snoc (v .words) x (wordsOf ps)
 
-    pub words-next : r < length text → WordsTaken text (set ty n x) (r + 1) (n + 1)
-    unfolding typeIn
-    words-next k =
-        record {
-          place = omega arith;
-          room = omega (arith, length-set ty n x);
-          read =
-              v .read
-              ∙ ap (ahead (take n ty)) (ap wordsOf (part-here text start r f k) ∙ words-one _ _ ∙ ap (λ (o : Option ℕ). add o (typeIn (drop (r + 1) text))) its)
-              ∙ ahead-more ty n x (typeIn (drop (r + 1) text)) room;
-        }
+      counted : n + 1 ≡ length (v .words ++ (x ∷ []))
+      counted = omega (arith, v .count, length-append (v .words) (x ∷ []))
 
-    pub words-end : r ≡ length text → some (take (n + 1) (set ty n x)) ≡ fitting (length ty) (typeIn text)
-    unfolding typeIn
-    words-end k =
-        let all : typeIn text ≡ some (take (n + 1) (set ty n x)) =
-        v .read
-        ∙ ap (ahead (take n ty)) (ap wordsOf (part-left text start r f (omega arith)) ∙ words-one _ _ ∙ (λ j. add (its j) (words-none j)))
-        ∙ ahead-more ty n x (some []) room
-        ∙ ap some (append-nil (take (n + 1) (set ty n x)))
-        in
-        sym (ap (fitting (length ty)) all ∙ words-fit (length ty) (n + 1) (set ty n x) (omega arith) (omega (arith, length-set ty n x)))
+      -- the buffer with this one
+      module _ {after : List ℕ} (put : after ≡ set ty n x) where
+        kept : n + 1 ≤ length after → take (n + 1) after ≡ v .words ++ (x ∷ [])
+        kept k =
+            let room : n < length ty = omega (arith, ap length put, length-set ty n x) in
+            ap (take (n + 1)) put ∙ take-more ty n x room ∙ ap (λ (l : List ℕ). l ++ (x ∷ [])) (v .stored (omega arith))
 
--- a place found that is not the end
-pub not-end : {text : List ℕ} {start b r : ℕ} → (r ≡ length text → ⊥) → Found text start b r → r < length text
-not-end {text} {start} {b} {r} h f = go (ltb r (length text)) refl
-  where
-    go : (t : Bool) → ltb r (length text) ≡ t → r < length text
-    go true e = ltb-true r (length text) e
-    go false e = absurd (h (omega (arith, f .within, ltb-false r (length text) e)))
+        pub words-next : r < length text → WordsTaken text after (r + 1) (n + 1)
+        unfolding typeIn
+        words-next k =
+            record {
+              words = v .words ++ (x ∷ []);
+              count = counted;
+              place = omega arith;
+              few = omega (arith, v .few, f .from);
+              stored = kept;
+              read = more _ (part-here f k);
+              judged =
+                  v .judged ∙ ap (badWord (n + 1)) (part-here f k) ∙ bad-one (n + 1) part (partsOf (drop (r + 1) text))
+                  ∙ ap (λ (o : Option ℕ). if (isSome o) (badWord (n + 1 + 1) (partsOf (drop (r + 1) text))) (some (n + 1))) its;
+            }
+
+        pub words-end : r ≡ length text → AllTaken text after (n + 1)
+        words-end k =
+            record {
+              words = v .words ++ (x ∷ []);
+              count = counted;
+              stored = kept;
+              are = more _ (part-left f k) ∙ ap (ahead (v .words ++ (x ∷ []))) words-none ∙ ap some (append-nil (v .words ++ (x ∷ [])));
+            }

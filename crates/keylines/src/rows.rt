@@ -3,7 +3,7 @@ ghost use mathlib.Core.Path.{_≡_};
 ghost use Prim.Native.Nat.{_+_, _≤_, _<_};
 ghost use lib.ListN.{length};
 ghost use Rattle.format.specs.Keylist.{decimal, row};
-ghost use Rattle.keylines.specs.Answers.{Put};
+ghost use Rattle.keylines.specs.Answers.{Put, NumberPut};
 
 fn narrow(x: u64) -> u8
     requires { ⌜ x < 256 ⌝ }
@@ -26,18 +26,23 @@ fn put_decimal(out: &mut [u8], at: usize, n: u64) -> usize
     end + 1
 }
 
+// A number's digits, and the byte behind them.
+fn put_number(out: &mut [u8], at: usize, n: u64, behind: u8) -> usize
+    requires { ⌜ at + length (decimal n) < length (now out) ⌝ }
+    ensures { λ r. ⌜ NumberPut (now (out .entry)) (now (out .exit)) at r n behind ⌝ }
+{
+    let end = put_decimal(out, at, n);
+    out[end] = behind;
+    end + 1
+}
+
 // The row of a line: its place, refusal, detail and values begun.
 pub fn put_row(out: &mut [u8], at: usize, place: u64, no: u32, detail: u64, begun: u64) -> usize
     requires { ⌜ at + length (row place no detail begun) ≤ length (now out) ⌝ }
     ensures { λ r. ⌜ Put (now (out .entry)) (now (out .exit)) at r (row place no detail begun) ⌝ }
 {
-    let a = put_decimal(out, at, place);
-    out[a] = b'\t';
-    let b = put_decimal(out, a + 1, no as u64);
-    out[b] = b'\t';
-    let c = put_decimal(out, b + 1, detail);
-    out[c] = b'\t';
-    let d = put_decimal(out, c + 1, begun);
-    out[d] = b'\n';
-    d + 1
+    let a = put_number(out, at, place, b'\t');
+    let b = put_number(out, a, no as u64, b'\t');
+    let c = put_number(out, b, detail, b'\t');
+    put_number(out, c, begun, b'\n')
 }

@@ -1,6 +1,7 @@
 // The line of type words: in decimal, parted by tabs.
 use crate::text::find;
 ghost use mathlib.Core.Path.{_≡_};
+ghost use lib.ListN.{set};
 ghost use Rattle.format.specs.Keylist.{wordOf};
 ghost use Rattle.keylines.specs.Answers.{wordIs, WordsRead};
 
@@ -9,10 +10,11 @@ pub enum Word {
     Bad,
 }
 
-// How many words stand at the front of the buffer.
+// How many words stand at the front of the buffer; more words than it holds; the place, from 1, of the first that is none.
 pub enum Words {
     Are(usize),
-    Bad,
+    Many,
+    Bad(usize),
 }
 
 fn wide(x: u8) -> u64
@@ -50,25 +52,35 @@ fn type_word(text: &[u8]) -> Word
     Word::Is(n as u32)
 }
 
-// The words of a line, put at the front of a buffer. More than it holds are as bad as no words: it has room for the longest admitted type.
+// Puts a word into a buffer; one behind its end is left out.
+fn keep_word(ty: &mut [u32], n: usize, x: u32)
+    ensures { λ _. ⌜ now (ty .exit) ≡ set (now (ty .entry)) n x ⌝ }
+{
+    if n < ty.len() {
+        ty[n] = x;
+    }
+}
+
+// The words of a line, put at the front of a buffer.
 pub fn type_words(text: &[u8], ty: &mut [u32]) -> Words
-    ensures { λ r. ⌜ WordsRead (now (text .entry)) (now (ty .entry)) (now (ty .exit)) r ⌝ }
+    ensures { λ r. ⌜ WordsRead (now (text .entry)) (now (ty .exit)) r ⌝ }
 {
     let mut start = 0;
     let mut n = 0;
     loop {
         let end = find(text, start, b'\t');
         let Word::Is(x) = type_word(&text[start..end]) else {
-            return Words::Bad;
+            return Words::Bad(n + 1);
         };
-        if ty.len() <= n {
-            return Words::Bad;
-        }
-        ty[n] = x;
+        keep_word(ty, n, x);
         n += 1;
         if end == text.len() {
-            return Words::Are(n);
+            break;
         }
         start = end + 1;
     }
+    if ty.len() < n {
+        return Words::Many;
+    }
+    Words::Are(n)
 }

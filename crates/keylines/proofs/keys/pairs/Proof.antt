@@ -1,4 +1,4 @@
--- `pairs` meets its contract.
+-- `pairs` meets its contract: the key is the bytes put so far, and then what the text that is left holds; a pair less is left each turn.
 use borrow.Author.Needs.{needs}
 use mathlib.Core.Path.{_≡_, refl}
 use Prim.Native.Nat.{_-_}
@@ -15,7 +15,9 @@ abbrev μ-loop : tie.MeasureT-loop
 μ-loop text buf₀ i₀ n₀ buf i n = length text - i
 
 loop-holds : tie.Need-loop-holds Inv-loop μ-loop
-loop-holds c = (laws.pairs-start (c .before .before .args .text .now) (c .before .before .args .buf .now), refl)
+loop-holds c =
+    let a = c .before .before .args in
+    (laws.pairs-start (a .text .now) (a .buf .now), refl)
 
 sub-if1 : tie.Need-sub-if1 Inv-loop μ-loop
 sub-if1 c = omega arith
@@ -24,7 +26,7 @@ same-length : tie.Need-same-length Inv-loop μ-loop
 same-length c = c .before .before .loop .inv .1
 
 returns : tie.Need-returns Inv-loop μ-loop
-returns c = record { is = laws.pairs-odd (c .before .before .before .before .before .args .text .now) (c .before .before .loop .buf) (c .before .before .loop .i) (c .before .before .loop .n) (c .before .before .loop .inv .0) (c .before .loop-test .taken) (c .if1 .taken); counts = tt }
+returns c = record { is = laws.pairs-odd (c .before .before .loop .inv .0) (c .before .loop-test .taken) (c .if1 .taken); counts = tt }
 
 shared-slice-read-digit : tie.Need-shared-slice-read-digit Inv-loop μ-loop
 shared-slice-read-digit c = omega arith
@@ -33,10 +35,12 @@ digit-requires : tie.Need-digit-requires Inv-loop μ-loop
 digit-requires c κs = search needs
 
 same-length-2 : tie.Need-same-length-2 Inv-loop μ-loop
-same-length-2 c = c .before .before .before .before .before .loop .inv .1
+same-length-2 c = let turn = c .before .before .before .before in turn .before .loop .inv .1
 
 returns-2 : tie.Need-returns-2 Inv-loop μ-loop
-returns-2 c = record { is = laws.pairs-high (c .before .before .before .before .before .before .before .before .args .text .now) (c .before .before .before .before .before .loop .buf) (c .before .before .before .before .before .loop .i) (c .before .before .before .before .before .loop .n) (c .before .before .before .before .before .loop .inv .0) (omega arith) _ (c .before .digit .ensures) (c .if2 .taken); counts = tt }
+returns-2 c =
+    let turn = c .before .before .before .before in
+    record { is = laws.pairs-high (turn .before .loop .inv .0) (omega arith) (c .before .digit .ensures) (c .if2 .taken); counts = tt }
 
 add-digit : tie.Need-add-digit Inv-loop μ-loop
 add-digit c = omega arith
@@ -48,10 +52,12 @@ digit-requires-2 : tie.Need-digit-requires-2 Inv-loop μ-loop
 digit-requires-2 c κs = search needs
 
 same-length-3 : tie.Need-same-length-3 Inv-loop μ-loop
-same-length-3 c = c .before .before .before .before .before .before .before .before .loop .inv .1
+same-length-3 c = let turn = c .before .before .before .before .before .before .before in turn .before .loop .inv .1
 
 returns-3 : tie.Need-returns-3 Inv-loop μ-loop
-returns-3 c = record { is = laws.pairs-low (c .before .before .before .before .before .before .before .before .before .before .before .args .text .now) (c .before .before .before .before .before .before .before .before .loop .buf) (c .before .before .before .before .before .before .before .before .loop .i) (c .before .before .before .before .before .before .before .before .loop .n) (c .before .before .before .before .before .before .before .before .loop .inv .0) (omega arith) _ (c .before .digit2 .ensures) (c .if3 .taken); counts = tt }
+returns-3 c =
+    let turn = c .before .before .before .before .before .before .before in
+    record { is = laws.pairs-low (turn .before .loop .inv .0) (omega arith) (c .before .digit2 .ensures) (c .if3 .taken); counts = tt }
 
 mul-buf : tie.Need-mul-buf Inv-loop μ-loop
 mul-buf c = omega arith
@@ -72,13 +78,16 @@ loop-less : tie.Need-loop-less Inv-loop μ-loop
 loop-less c = omega arith
 
 loop-again : tie.Need-loop-again Inv-loop μ-loop
-loop-again c = (laws.pairs-next (c .before .before .before .before .before .before .before .before .before .before .before .args .text .now) (c .before .before .before .before .before .before .before .before .loop .buf) (c .before .before .before .before .before .before .before .before .loop .i) (c .before .before .before .before .before .before .before .before .loop .n) (c .before .before .before .before .before .before .before .before .loop .inv .0) (omega arith) _ _ (c .before .before .before .before .digit .ensures) (c .before .before .before .if2 .left) (c .before .digit2 .ensures) (c .if3 .left) (omega arith), simp length-set (c .before .before .before .before .before .before .before .before .loop .inv .1))
+loop-again c =
+    let high = c .before .before .before in
+    let l = high .before .before .before .before .before .loop in
+    (laws.pairs-next (l .inv .0) (omega arith) (high .before .digit .ensures) (high .if2 .left) (c .before .digit2 .ensures) (c .if3 .left) (omega arith), simp length-set (l .inv .1))
 
 same-length-4 : tie.Need-same-length-4 Inv-loop μ-loop
 same-length-4 c = c .before .loop .inv .1
 
 returns-4 : tie.Need-returns-4 Inv-loop μ-loop
-returns-4 c = record { is = laws.pairs-end (c .before .before .before .before .args .text .now) (c .before .loop .buf) (c .before .loop .i) (c .before .loop .n) (c .before .loop .inv .0) (c .loop-test .left); counts = laws.counts _ _ (omega arith) }
+returns-4 c = record { is = laws.pairs-end (c .before .loop .inv .0) (c .loop-test .left); counts = laws.counts _ _ (omega arith) }
 
 pub pairs-spec : {M : Type 1} → statement M
 pairs-spec =

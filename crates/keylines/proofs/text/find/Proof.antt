@@ -1,4 +1,4 @@
--- `find` meets its contract.
+-- `find` meets its contract: what is left is searched as the whole was, and falls by a byte a turn.
 use mathlib.Core.Path.{refl}
 use Prim.Native.Nat.{_-_}
 use native.Mathlib.Omega.{arith}
@@ -14,13 +14,15 @@ abbrev μ-loop : tie.MeasureT-loop
 μ-loop text at byte i₀ i = length text - i
 
 loop-holds : tie.Need-loop-holds Inv-loop μ-loop
-loop-holds c = (omega arith, c .pre, refl)
+loop-holds c = record { from = omega arith; within = c .pre; left = refl }
 
 shared-slice-read-if1 : tie.Need-shared-slice-read-if1 Inv-loop μ-loop
 shared-slice-read-if1 c = omega arith
 
 returns : tie.Need-returns Inv-loop μ-loop
-returns c = laws.found-here (c .before .before .before .before .args .text .now) (c .before .before .before .before .args .at) (c .before .before .before .before .args .byte) (c .before .before .before .loop .i) (c .before .before .before .loop .inv) (c .before .before .loop-test .taken) (c .if1 .taken)
+returns c =
+    let turn = c .before .before in
+    laws.found-here (turn .before .loop .inv) (turn .loop-test .taken) (c .if1 .taken)
 
 add-i : tie.Need-add-i Inv-loop μ-loop
 add-i c = omega arith
@@ -29,10 +31,12 @@ loop-less : tie.Need-loop-less Inv-loop μ-loop
 loop-less c = omega arith
 
 loop-again : tie.Need-loop-again Inv-loop μ-loop
-loop-again c = laws.found-not (c .before .before .before .before .args .text .now) (c .before .before .before .before .args .at) (c .before .before .before .before .args .byte) (c .before .before .before .loop .i) (c .before .before .before .loop .inv) (c .before .before .loop-test .taken) (c .if1 .left)
+loop-again c =
+    let turn = c .before .before in
+    laws.found-not (turn .before .loop .inv) (turn .loop-test .taken) (c .if1 .left)
 
 returns-2 : tie.Need-returns-2 Inv-loop μ-loop
-returns-2 c = laws.found-end (c .before .before .args .text .now) (c .before .before .args .at) (c .before .before .args .byte) (c .before .loop .i) (c .before .loop .inv) (c .loop-test .left)
+returns-2 c = laws.found-end (c .before .loop .inv) (c .loop-test .left)
 
 pub find-spec : {M : Type 1} → statement M
 find-spec =

@@ -1,12 +1,10 @@
--- `type_words` meets its contract.
-use Rattle.keylines.proofs.PairLaws.{counts}
-use Rattle.format.specs.Keylist.{typeIn}
-use Rattle.keylines.specs.Answers.{fitting}
+-- `type_words` meets its contract: the line's words are those read, and then those of the text that is left; a word less is left each turn.
 use mathlib.Core.Path.{_≡_, refl, ap, _∙_}
-use Prim.Native.Nat.{ℕ, _-_}
+use Prim.Native.Nat.{_-_}
 use native.Mathlib.Omega.{arith}
 use lib.ListN.{length, length-set}
 use borrow.Author.Needs.{needs}
+use Rattle.keylines.proofs.TextLaws.{not-end}
 use Rattle.keylines.proofs.WordLaws as laws
 use Rattle.keylines.proofs.types.type_words.Statement.{statement}
 use Rattle.keylines.proofs.types.type_words.Tie as tie
@@ -18,7 +16,7 @@ abbrev μ-loop : tie.MeasureT-loop
 μ-loop text ty₀ start₀ n₀ ty start n = length text - start
 
 loop-holds : tie.Need-loop-holds Inv-loop μ-loop
-loop-holds c = (laws.words-start (c .before .before .args .text .now) (c .before .before .args .ty .now), refl)
+loop-holds c = (laws.words-start _ _, refl)
 
 find-requires : tie.Need-find-requires Inv-loop μ-loop
 find-requires c κs = c .loop .inv .0 .place
@@ -41,32 +39,27 @@ enum-known-x c = search needs
 enum-told : tie.Need-enum-told Inv-loop μ-loop
 enum-told c = search needs
 
+add-t12 : tie.Need-add-t12 Inv-loop μ-loop
+add-t12 c = omega arith
+
 same-length : tie.Need-same-length Inv-loop μ-loop
-same-length c = c .before .before .before .before .before .loop .inv .1
+same-length c = let word = c .before .before in word .before .before .before .loop .inv .1
 
 returns : tie.Need-returns Inv-loop μ-loop
-returns c = record { is = laws.words-bad (c .before .before .before .before .before .before .before .before .args .text .now) (c .before .before .before .before .before .loop .ty) (c .before .before .before .before .before .loop .start) (c .before .before .before .before .before .loop .n) (c .before .before .before .before .find .result) (c .before .before .before .before .before .loop .inv .0) (c .before .before .before .before .find .ensures) (c .before .before .type-word .result) (c .before .before .type-word .ensures) (c .enum-told .given .1) ∙ ap (λ (m : ℕ). fitting m (typeIn (c .before .before .before .before .before .before .before .before .args .text .now))) (c .before .before .before .before .before .loop .inv .1); counts = tt }
+returns c =
+    let word = c .before .before in
+    let found = word .before .before in
+    record { are = laws.words-bad (found .before .loop .inv .0) (found .find .ensures) (word .type-word .ensures) (c .enum-told .given .1) }
 
-same-length-2 : tie.Need-same-length-2 Inv-loop μ-loop
-same-length-2 c = c .before .before .before .before .before .before .before .loop .inv .1
-
-returns-2 : tie.Need-returns-2 Inv-loop μ-loop
-returns-2 c = record { is = laws.words-full (c .before .before .before .before .before .before .before .before .before .before .args .text .now) (c .before .before .before .before .before .before .before .loop .ty) (c .before .before .before .before .before .before .before .loop .start) (c .before .before .before .before .before .before .before .loop .n) (c .before .before .before .before .before .before .find .result) (c .before .before .before .before .before .before .before .loop .inv .0) (c .before .before .before .before .before .before .find .ensures) (c .if1 .taken) ∙ ap (λ (m : ℕ). fitting m (typeIn (c .before .before .before .before .before .before .before .before .before .before .args .text .now))) (c .before .before .before .before .before .before .before .loop .inv .1); counts = tt }
-
-mul-ty : tie.Need-mul-ty Inv-loop μ-loop
-mul-ty c = search needs
-
-slice-write-ty : tie.Need-slice-write-ty Inv-loop μ-loop
-slice-write-ty c = omega arith
+keep-word-requires : tie.Need-keep-word-requires Inv-loop μ-loop
+keep-word-requires c κs = search needs
 
 add-n : tie.Need-add-n Inv-loop μ-loop
-add-n c = omega arith
-
-same-length-3 : tie.Need-same-length-3 Inv-loop μ-loop
-same-length-3 c = simp length-set (c .before .before .before .before .before .before .before .before .loop .inv .1)
-
-returns-3 : tie.Need-returns-3 Inv-loop μ-loop
-returns-3 c = record { is = laws.words-end (c .before .before .before .before .before .before .before .before .before .before .before .args .text .now) (c .before .before .before .before .before .before .before .before .loop .ty) (c .before .before .before .before .before .before .before .before .loop .start) (c .before .before .before .before .before .before .before .before .loop .n) (c .before .before .before .before .before .before .before .find .result) (c .before .before .before .before .before .before .before .before .loop .inv .0) (c .before .before .before .before .before .before .before .find .ensures) _ (c .before .before .before .before .before .type-word .result) (c .before .before .before .before .before .type-word .ensures) (c .before .before .before .x .given .1) (c .before .if1 .left) (c .if2 .taken) ∙ ap (λ (m : ℕ). fitting m (typeIn (c .before .before .before .before .before .before .before .before .before .before .before .args .text .now))) (c .before .before .before .before .before .before .before .before .loop .inv .1); counts = counts _ _ (simp length-set (omega arith)) }
+add-n c =
+    let keep = c .before .before in
+    let word = keep .before .before .before .before .before in
+    let l = word .before .before .before .loop in
+    omega (arith, l .inv .0 .few, l .inv .0 .place)
 
 add-start : tie.Need-add-start Inv-loop μ-loop
 add-start c = omega arith
@@ -75,7 +68,48 @@ loop-less : tie.Need-loop-less Inv-loop μ-loop
 loop-less c = omega arith
 
 loop-again : tie.Need-loop-again Inv-loop μ-loop
-loop-again c = (laws.words-next (c .before .before .before .before .before .before .before .before .before .before .before .args .text .now) (c .before .before .before .before .before .before .before .before .loop .ty) (c .before .before .before .before .before .before .before .before .loop .start) (c .before .before .before .before .before .before .before .before .loop .n) (c .before .before .before .before .before .before .before .find .result) (c .before .before .before .before .before .before .before .before .loop .inv .0) (c .before .before .before .before .before .before .before .find .ensures) _ (c .before .before .before .before .before .type-word .result) (c .before .before .before .before .before .type-word .ensures) (c .before .before .before .x .given .1) (c .before .if1 .left) (laws.not-end (c .if2 .left) (c .before .before .before .before .before .before .before .find .ensures)), simp length-set (c .before .before .before .before .before .before .before .before .loop .inv .1))
+loop-again c =
+    let keep = c .before .before .before in
+    let known = keep .before .before .before in
+    let word = known .before .before in
+    let found = word .before .before in
+    let inv = found .before .loop .inv in
+    let f = found .find .ensures in (
+      laws.words-next (inv .0) f (word .type-word .ensures) (known .x .given .1) (keep .keep-word .ensures) (not-end f (c .if1 .left)),
+      ap length (keep .keep-word .ensures) ∙ simp length-set (inv .1),
+    )
+
+same-length-2 : tie.Need-same-length-2 Inv-loop μ-loop
+same-length-2 c =
+    let keep = c .before .before .before .before in
+    let known = keep .before .before .before in
+    let found = known .before .before .before .before in
+    ap length (keep .keep-word .ensures) ∙ simp length-set (found .before .loop .inv .1)
+
+returns-2 : tie.Need-returns-2 Inv-loop μ-loop
+returns-2 c =
+    let keep = c .before .before .before .before in
+    let known = keep .before .before .before in
+    let word = known .before .before in
+    let found = word .before .before in
+    let all = laws.words-end (found .before .loop .inv .0) (found .find .ensures) (word .type-word .ensures) (known .x .given .1) (keep .keep-word .ensures) (c .before .if1 .taken) in
+    record { are = laws.all-many all (c .if2 .taken) }
+
+same-length-3 : tie.Need-same-length-3 Inv-loop μ-loop
+same-length-3 c =
+    let keep = c .before .before .before .before in
+    let known = keep .before .before .before in
+    let found = known .before .before .before .before in
+    ap length (keep .keep-word .ensures) ∙ simp length-set (found .before .loop .inv .1)
+
+returns-3 : tie.Need-returns-3 Inv-loop μ-loop
+returns-3 c =
+    let keep = c .before .before .before .before in
+    let known = keep .before .before .before in
+    let word = known .before .before in
+    let found = word .before .before in
+    let all = laws.words-end (found .before .loop .inv .0) (found .find .ensures) (word .type-word .ensures) (known .x .given .1) (keep .keep-word .ensures) (c .before .if1 .taken) in
+    record { are = laws.all-fit all (c .if2 .left) }
 
 pub type-words-spec : {M : Type 1} → statement M
 type-words-spec =
@@ -91,15 +125,15 @@ type-words-spec =
     type-word-requires
     enum-known-x
     enum-told
+    add-t12
     same-length
     returns
-    same-length-2
-    returns-2
-    mul-ty
-    slice-write-ty
+    keep-word-requires
     add-n
-    same-length-3
-    returns-3
     add-start
     loop-less
-    loop-again)
+    loop-again
+    same-length-2
+    returns-2
+    same-length-3
+    returns-3)

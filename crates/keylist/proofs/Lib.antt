@@ -1,2 +1,0 @@
--- Laws of the program's rooms.
-pub mod Rooms
