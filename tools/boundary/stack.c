@@ -26,22 +26,33 @@ typedef struct {
 static input inputs[16];
 static int count;
 
-/* `depth` groups round an Int, each a record if its letter in the pattern is r, else a union */
+/* an Int in the type, the value and both encodings */
+static void integer(input *in) {
+    in->type[in->type_len++] = 1;
+    in->words[in->words_len++] = 1;
+    in->words[in->words_len++] = 7;
+    const uint8_t seven[] = {0x49, 7};
+    memcpy(in->typed + in->typed_len, seven, 2);
+    memcpy(in->key + in->key_len, seven, 2);
+    in->typed_len += 2;
+    in->key_len += 2;
+}
+
+/* `depth` groups round an Int, each a record if its letter in the pattern is r, a record with an Int behind the group in it if it is i, else a union */
 static void nest(const char *name, int depth, const char *pattern) {
     input *in = &inputs[count++];
     in->name = name;
-    size_t n = strlen(pattern), open = 0;
+    size_t n = strlen(pattern);
     for (int i = 0; i < depth; i++) {
-        if (pattern[i % n] == 'r') {
+        if (pattern[i % n] != 'u') {
+            int fields = pattern[i % n] == 'i' ? 2 : 1;
             in->type[in->type_len++] = 5;
-            in->type[in->type_len++] = 1;
+            in->type[in->type_len++] = fields;
             in->words[in->words_len++] = 5;
-            in->words[in->words_len++] = 1;
+            in->words[in->words_len++] = fields;
             in->typed[in->typed_len++] = 0x22;
             if (i > 0)
                 in->key[in->key_len++] = 0x22;
-            else
-                continue;
         } else {
             in->type[in->type_len++] = 6;
             in->type[in->type_len++] = 1;
@@ -54,18 +65,16 @@ static void nest(const char *name, int depth, const char *pattern) {
             memcpy(in->key + in->key_len, tag, 3);
             in->key_len += 3;
         }
-        open++;
     }
-    in->type[in->type_len++] = 1;
-    in->words[in->words_len++] = 1;
-    in->words[in->words_len++] = 7;
-    const uint8_t seven[] = {0x49, 7};
-    memcpy(in->typed + in->typed_len, seven, 2);
-    memcpy(in->key + in->key_len, seven, 2);
-    memset(in->typed + in->typed_len + 2, 0, depth);
-    memset(in->key + in->key_len + 2, 0, open);
-    in->typed_len += 2 + depth;
-    in->key_len += 2 + open;
+    integer(in);
+    for (int i = depth - 1; i >= 0; i--) {
+        bool bare = i == 0 && pattern[0] != 'u';
+        if (pattern[i % n] == 'i')
+            integer(in);
+        in->typed[in->typed_len++] = 0;
+        if (!bare)
+            in->key[in->key_len++] = 0;
+    }
 }
 
 /* a record of n Ints; or, beside it, a union of n alternatives with its last */
@@ -127,11 +136,11 @@ static void compare(void) { refusal = tuple_compare(now->words, now->words_len, 
 static void strinc(void) { refusal = tuple_strinc(now->key, now->key_len, out, BYTES).refusal; }
 static void above_field(void) { refusal = tuple_above_field(now->key, now->key_len, out, BYTES).refusal; }
 static void bounds(void) { refusal = tuple_bounds(now->type, now->type_len, now->key, now->key_len, 1, out, BYTES, more, BYTES).refusal; }
-/* the new value is the record's first field again, or where there are more an Int */
+/* the new value is the record's first field again, or of many fields an Int; an Int behind the first field is two words */
 static void replace(void) {
     memcpy(out, now->key, now->key_len);
-    bool one = now->words[1] == 1;
-    refusal = tuple_replace(now->type, now->type_len, out, BYTES, now->key_len, 0, now->words + 2, one ? now->words_len - 2 : 2, now->pool, now->pool_len).refusal;
+    size_t n = now->words[1] == 1 ? now->words_len - 2 : now->words[1] == 2 ? now->words_len - 4 : 2;
+    refusal = tuple_replace(now->type, now->type_len, out, BYTES, now->key_len, 0, now->words + 2, n, now->pool, now->pool_len).refusal;
 }
 static void get_i64(void) { refusal = tuple_get_i64(now->key, now->key_len).refusal; }
 static void get_u64(void) { refusal = tuple_get_u64(now->key, now->key_len).refusal; }
@@ -178,6 +187,9 @@ int main(void) {
     nest("320, by turns", 320, "ru");
     nest("257 records", 257, "r");
     nest("256 records", 256, "r");
+    nest("256 records, an Int behind each", 256, "i");
+    nest("257 records, an Int behind each", 257, "i");
+    nest("320 records, an Int behind each", 320, "i");
     nest("256 unions", 256, "u");
     nest("256, by turns", 256, "ru");
     nest("257, by turns", 257, "ru");
