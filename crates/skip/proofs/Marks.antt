@@ -7,11 +7,11 @@ use native.Mathlib.Omega.{arith}
 use lib.Dec.{eqb, ltb, leb}
 use lib.ListN.{length, getD, drop}
 use borrow.Author.Tests.{ne-eqb, eqb-true, eqb-false, lt-ltb, le-ltb, ltb-true, ltb-false, le-leb, lt-leb, leb-true, leb-false}
-use Rattle.format.specs.Answer.{if, ok, refused, andThen}
+use Rattle.format.specs.Answer.{if, Answer, ok, refused, andThen}
 use Rattle.format.specs.Lengths.{lengthIn}
 use Rattle.format.specs.declared.Length.{Length}
 use Rattle.format.specs.Read.{Read, thenRead, getUint, startsFF}
-use Rattle.format.specs.Fields.{takenFrom}
+use Rattle.format.specs.Fields.{Taken, takenFrom}
 use Rattle.format.specs.Skip.{passBytes, passField, endOf}
 use Rattle.format.specs.Cursor.{nullAt, tagAt, unionMark}
 use Rattle.scalar.specs.Answers.{gotInt}
@@ -21,7 +21,7 @@ use Rattle.scalar.proofs.Cases.{by-test}
 use Rattle.scalar.proofs.Reading.{taken-bad}
 use Rattle.scalar.proofs.Integers.{big-short}
 use Rattle.scalar.proofs.Unjudged.{width-inside, inside-width}
-use Rattle.skip.specs.Tokens.{field, passRun, numberMark, runMark, Begins, Left}
+use Rattle.skip.specs.Tokens.{field, nullToken, passRun, numberMark, runMark, Begins, Left}
 
 -- ---- integers, references and runs
 
@@ -103,11 +103,20 @@ bytes-run m h = rw (ne-eqb m 0x21 h)
 
 -- ---- any other field
 
-pub due-required : (escape : Bool) (depth : ℕ) → escape ≡ true → true ≡ (escape || ltb 0 depth)
-due-required escape depth h = rw h
+module _ (depth : ℕ) (s : List ℕ) (q : Bool) (g : Length) (p : lengthIn g ≡ endOf s (nullAt (if q 1 0) s)) where
+  pub null-passed : (n : ℕ) → g ≡ Length.Done n → ok (record { value = depth; used = n }) ≡ nullToken depth q s
+  null-passed n h = rw (← p, h)
 
-pub due-inside : (escape : Bool) (depth : ℕ) → escape ≡ false → ltb 0 depth ≡ (escape || ltb 0 depth)
-due-inside escape depth h = rw h
+  pub null-refused : (n d : ℕ) → g ≡ Length.Refused n d → refused n d ≡ nullToken depth q s
+  null-refused n d h = rw (← p, h)
+
+or-false : (b : Bool) → b ≡ (b || false)
+or-false true = refl
+or-false false = refl
+
+or-true : (b : Bool) → true ≡ (b || true)
+or-true true = refl
+or-true false = refl
 
 module _ (escape : Bool) (depth : ℕ) where
   field-known : (s : List ℕ) (m : ℕ) → Begins s m → field escape depth s ≡ passField escape depth m (drop 1 s)
@@ -116,24 +125,21 @@ module _ (escape : Bool) (depth : ℕ) where
   field-known (x ∷ s) m b = rw (b .first)
 
   -- a null: FF is due or not
-  null-read : (t : List ℕ) (q : Bool)
-      → takenFrom (0 ∷ t) (if q (if (startsFF t) (Read.got depth (drop 1 t)) (Read.bad 3 0)) (Read.got depth t))
-      ≡ andThen (endOf (0 ∷ t) (nullAt (if q 1 0) (0 ∷ t))) (λ n. ok (record { value = depth; used = n }))
+  null-read : (t : List ℕ) (q : Bool) → takenFrom (0 ∷ t) (if q (if (startsFF t) (Read.got depth (drop 1 t)) (Read.bad 3 0)) (Read.got depth t)) ≡ nullToken depth q (0 ∷ t)
   null-read t true = by-test (startsFF t) (λ e. rw e) (λ e. rw e)
   null-read t false = refl
 
-  null-field : (s : List ℕ) → Begins s 0x00 → (q : Bool) → q ≡ (escape || ltb 0 depth)
-      → takenFrom s (field escape depth s) ≡ andThen (endOf s (nullAt (if q 1 0) s)) (λ n. ok (record { value = depth; used = n }))
+  null-field : (s : List ℕ) → Begins s 0x00 → (q : Bool) → q ≡ (escape || ltb 0 depth) → nullToken depth q s ≡ takenFrom s (field escape depth s)
   unfolding field passField
   null-field [] b q e = let z = b .some in absurd (omega arith)
-  null-field (x ∷ s) b q e = rw (b .first, ← e) (null-read s q)
+  null-field (x ∷ s) b q e = sym (rw (b .first, ← e) (null-read s q))
 
-  module _ (s : List ℕ) (b : Begins s 0x00) (q : Bool) (e : q ≡ (escape || ltb 0 depth)) (g : Length) (p : lengthIn g ≡ endOf s (nullAt (if q 1 0) s)) where
-    pub null-passed : (n : ℕ) → g ≡ Length.Done n → ok (record { value = depth; used = n }) ≡ takenFrom s (field escape depth s)
-    null-passed n h = sym (null-field s b q e ∙ rw (← p, h))
+  module _ (s : List ℕ) (b : Begins s 0x00) {r : Answer (Taken ℕ)} where
+    pub null-outside : r ≡ nullToken depth escape s → depth ≡ 0 → r ≡ takenFrom s (field escape depth s)
+    null-outside e h = e ∙ null-field s b escape (rw h (or-false escape))
 
-    pub null-refused : (n d : ℕ) → g ≡ Length.Refused n d → refused n d ≡ takenFrom s (field escape depth s)
-    null-refused n d h = sym (null-field s b q e ∙ rw (← p, h))
+    pub null-inside : r ≡ nullToken depth true s → (depth ≡ 0 → ⊥) → r ≡ takenFrom s (field escape depth s)
+    null-inside e h = e ∙ null-field s b true (rw (lt-ltb 0 depth (omega arith)) (or-true escape))
 
   -- a union: its depth, then its discriminant
   union-read : (s : List ℕ) → depth < 256 → (x : Read ℕ)

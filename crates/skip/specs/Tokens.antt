@@ -5,10 +5,11 @@ use mathlib.Core.Path.{_≡_}
 use Prim.Native.Nat.{ℕ, _≤_, _<_}
 use lib.Dec.{leb, eqb}
 use lib.ListN.{length, getD, drop}
-use Rattle.format.specs.Answer.{Answer, ok, refused, UnexpectedEof}
+use Rattle.format.specs.Answer.{if, Answer, ok, refused, andThen, UnexpectedEof}
 use Rattle.format.specs.Encode.{maxDepth}
 use Rattle.format.specs.Read.{Read, thenRead, getRun}
-use Rattle.format.specs.Skip.{passField}
+use Rattle.format.specs.Skip.{passField, endOf}
+use Rattle.format.specs.Cursor.{nullAt}
 use Rattle.format.specs.Fields.{Taken}
 use Rattle.scalar.specs.Numbers.{markWidth, unjudged}
 use Rattle.skip.specs.declared.Token.{Token}
@@ -28,6 +29,10 @@ field escape depth (m ∷ bs) = passField escape depth m bs
 pub record Begins (s : List ℕ) (m : ℕ) : Type 0 where
   pub some : 0 < length s
   pub first : getD s 0 0 ≡ m
+
+-- a null whose escape is due or not, at the depth that stays
+abbrev pub nullToken : ℕ → Bool → List ℕ → Answer (Taken ℕ)
+nullToken depth due s = andThen (endOf s (nullAt (if due 1 0) s)) (λ n. ok (record { value = depth; used = n }))
 
 -- ---- integers, references and runs
 

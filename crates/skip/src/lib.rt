@@ -5,7 +5,7 @@ use scalar::groups;
 use scalar::ints;
 use scalar::runs;
 ghost use mathlib.Core.Path.{_≡_};
-ghost use mathlib.Core.Bool.{true, _&&_, _||_};
+ghost use mathlib.Core.Bool.{true, _&&_};
 ghost use lib.Dec.{ltb, eqb};
 ghost use lib.ListN.{getD};
 ghost use Rattle.format.specs.Lengths.{lengthIn};
@@ -13,7 +13,7 @@ ghost use Rattle.format.specs.Encode.{maxDepth};
 ghost use Rattle.format.specs.Read.{endsHere};
 ghost use Rattle.format.specs.Fields.{takenFrom};
 ghost use Rattle.format.specs.Calls.{skipCall};
-ghost use Rattle.skip.specs.Tokens.{tokenOf, field, numberMark, runMark, Begins, RunEnds, Left};
+ghost use Rattle.skip.specs.Tokens.{tokenOf, field, nullToken, numberMark, runMark, Begins, RunEnds, Left};
 
 // How many groups are open behind a field or an opening mark, and how many bytes it took; or a refusal and its detail.
 enum Token {
@@ -31,25 +31,25 @@ fn group_ends(rest: &[u8], depth: u32) -> bool
     groups::ends_here(rest)
 }
 
-// A null's escape is due inside a group, and where it is required.
-fn escape_due(depth: u32, escape: bool) -> bool
-    ensures { λ r. ⌜ r ≡ (escape || ltb 0 depth) ⌝ }
+// A null passed over, at the depth that stays, whose escape is due or not.
+fn null_as(rest: &[u8], depth: u32, due: bool) -> Token
+    ensures { λ r. ⌜ tokenOf r ≡ nullToken depth due (now (rest .entry)) ⌝ }
 {
-    if escape {
-        return true;
+    match groups::null(rest, due) {
+        Length::Done(n) => Token::Passed(depth, n),
+        Length::Refused(no, detail) => Token::Bad(no, detail),
     }
-    0 < depth
 }
 
-// A null passed over, at the depth that stays.
+// A null. Its escape is due inside a group, and where it is required.
 fn null_token(rest: &[u8], depth: u32, escape: bool) -> Token
     requires { ⌜ Begins (now rest) 0x00 ⌝ }
     ensures { λ r. ⌜ tokenOf r ≡ takenFrom (now (rest .entry)) (field escape depth (now (rest .entry))) ⌝ }
 {
-    match groups::null(rest, escape_due(depth, escape)) {
-        Length::Done(n) => Token::Passed(depth, n),
-        Length::Refused(no, detail) => Token::Bad(no, detail),
+    if depth == 0 {
+        return null_as(rest, depth, escape);
     }
+    null_as(rest, depth, true)
 }
 
 // A union opens. Its depth is checked before its discriminant is read.

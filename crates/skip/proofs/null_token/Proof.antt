@@ -1,28 +1,20 @@
--- What the null took is what the field takes, at the depth that stays.
+-- Outside every group the escape is due where it is required, inside one always.
 use Rattle.skip.proofs.Marks as laws
 use borrow.Author.Needs.{needs}
 use Rattle.skip.proofs.null_token.Statement.{statement}
 use Rattle.skip.proofs.null_token.Tie as tie
 
-escape-due-requires : tie.Need-escape-due-requires
-escape-due-requires c κs = search needs
-
-null-requires : tie.Need-null-requires
-null-requires c κs = search needs
-
-enum-known-n : tie.Need-enum-known-n
-enum-known-n c = search needs
-
-enum-known-no : tie.Need-enum-known-no
-enum-known-no c = search needs
+null-as-requires : tie.Need-null-as-requires
+null-as-requires c κs = search needs
 
 returns : tie.Need-returns
-returns c = search laws.null-passed
+returns c = search laws.null-outside
+
+null-as-requires-2 : tie.Need-null-as-requires-2
+null-as-requires-2 c κs = search needs
 
 returns-2 : tie.Need-returns-2
-returns-2 c = search laws.null-refused
+returns-2 c = search laws.null-inside
 
 pub null-token-spec : {M : Type 1} → statement M
-null-token-spec =
-    tie.close
-    (tie.spec escape-due-requires null-requires enum-known-n enum-known-no returns returns-2)
+null-token-spec = tie.close (tie.spec null-as-requires returns null-as-requires-2 returns-2)
