@@ -62,7 +62,8 @@ seen =
     ∷ []
 
 by-calls : runCalls ty (book .buffer) 5 calls ≡ seen
-unfolding runCalls replaceCall typeOf typeAt oneType types valueOf valueAt oneValue values encodeKey keyBytes fits valBytes fieldCount valCount intBytes uintBytes negBytes be width leadingZeros escaped decode decodeBare decodeKey whole getBytes getRun getInt getUint getBig widthIs number startsFF endsHere spliced setField fieldAt firsts
+unfolding runCalls replaceCall typeOf typeAt oneType types valueOf valueAt oneValue values encodeKey keyBytes fits valBytes fieldCount valCount
+    intBytes uintBytes negBytes be width leadingZeros escaped decode decodeBare decodeKey whole getBytes getRun getInt getUint getBig widthIs number startsFF endsHere spliced setField fieldAt firsts
 by-calls = refl
 
 by-book : runBook book calls ≡ seen

@@ -103,7 +103,8 @@ bytes-reads g x r b = go (leb x (length b)) refl
     go true e = (cc (length-take-le x b (leb-true x (length b) e)), sym (take-append-drop x b), omega arith, tt)
     go false e = tt
 
-one-reads : (g : ℕ) (f : ℕ → List ℕ → List ℕ → Parts Vals) (h : List ℕ → List ℕ → Parts Val) → ((n : ℕ) (r b : List ℕ) → Reads g (5 ∷ n ∷ r) b (map Val.Record (f n r b))) → ((d : ℕ) (r b : List ℕ) → Reads g (6 ∷ d ∷ r) b (only (ltb d (2 ^ 32)) (map (Val.Union d) (h r b)))) → (w b : List ℕ) → Reads g w b (oneValue f h w b)
+one-reads : (g : ℕ) (f : ℕ → List ℕ → List ℕ → Parts Vals) (h : List ℕ → List ℕ → Parts Val) → ((n : ℕ) (r b : List ℕ) → Reads g (5 ∷ n ∷ r) b (map Val.Record (f n r b)))
+    → ((d : ℕ) (r b : List ℕ) → Reads g (6 ∷ d ∷ r) b (only (ltb d (2 ^ 32)) (map (Val.Union d) (h r b)))) → (w b : List ℕ) → Reads g w b (oneValue f h w b)
 unfolding oneValue valWords valPool nesting Proper
 one-reads g f h rf rh [] b = tt
 one-reads g f h rf rh (zero ∷ r) b = (refl, refl, omega arith, tt)

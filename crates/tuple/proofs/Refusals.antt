@@ -2,7 +2,7 @@
 use mathlib.Core.Bool.{Bool, true, false, _||_, _&&_}
 use mathlib.Core.List.{List, [], _∷_}
 use mathlib.Core.Option.{Option, some, none}
-use Prim.Native.Nat.{ℕ, zero, suc, _+_, _-_, _^_, _<_}
+use Prim.Native.Nat.{ℕ, zero, suc, _+_, _-_, _^_}
 use lib.Dec.{T, ltb, leb, eqb, lit<, lit≤}
 use lib.ListN.{length, take, drop}
 use Rattle.format.specs.Answer.{if, Answer, ok, refused, andThen, noRoom, BadRecord, TypeMismatch, BadString, NoField}
@@ -418,7 +418,8 @@ replaces ty buffer used field words pool =
     (λ t. fields-of t (fieldOf buffer used field words pool) (field-of buffer used field words pool))
 
 pub refusals-numbered : RefusalsNumbered
-unfolding calls.encodeTypedCall calls.encodeKeyCall calls.decodeTypedCall calls.decodeKeyCall calls.checkKeyCall calls.skipCall calls.compareCall calls.strincCall strinc calls.aboveFieldCall calls.boundsCall calls.replaceCall fields.getI64Call fields.getU64Call fields.getStrCall fields.getBytesCall fields.putI64Call fields.putU64Call fields.putStrCall fields.putBytesCall fields.putFactIdCall
+unfolding calls.encodeTypedCall calls.encodeKeyCall calls.decodeTypedCall calls.decodeKeyCall calls.checkKeyCall calls.skipCall calls.compareCall calls.strincCall strinc calls.aboveFieldCall calls.boundsCall calls.replaceCall
+    fields.getI64Call fields.getU64Call fields.getStrCall fields.getBytesCall fields.putI64Call fields.putU64Call fields.putStrCall fields.putBytesCall fields.putFactIdCall
 refusals-numbered =
     record {
       encode-typed = λ ty words pool out. writes out (encoded ty words pool encodeTyped) (encoded-numbered ty words pool encodeTyped encodes);

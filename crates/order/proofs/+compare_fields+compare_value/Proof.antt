@@ -171,7 +171,20 @@ compare-fields-loop-again t c =
     }
 
 abbrev compare-value-claims : ℕ → compare-value-lts.Claims
-compare-value-claims t = (rank-of-reads.Asked, rank-of-reads.Learnt, number-order-reads.Asked, number-order-reads.Learnt, stand-reads.Asked, stand-reads.Learnt, compare-fields-below t, compare-fields.Post, compare-value-below t, compare-value.Post, compare-scalar-reads.Asked, compare-scalar-reads.Learnt)
+compare-value-claims t = (
+  rank-of-reads.Asked,
+  rank-of-reads.Learnt,
+  number-order-reads.Asked,
+  number-order-reads.Learnt,
+  stand-reads.Asked,
+  stand-reads.Learnt,
+  compare-fields-below t,
+  compare-fields.Post,
+  compare-value-below t,
+  compare-value.Post,
+  compare-scalar-reads.Asked,
+  compare-scalar-reads.Learnt,
+)
 
 abbrev compare-value-need : (compare-value-lts.Claims → In 4 compare-value-kinds.ps → Out 4 compare-value-kinds.ps compare-value-kinds.r → Type 0) → Type 0
 compare-value-need N = (t : ℕ) → N (compare-value-claims t) (compare-value-at t) compare-value.Post

@@ -1,4 +1,4 @@
--- `replay::counts` is safe.
+-- What is left of the text falls with every line.
 use Prim.Native.Nat.{_≤_, _-_}
 use lib.ListN.{length}
 use borrow.Author.Needs.{needs}

@@ -1,4 +1,4 @@
--- `replay::totals` is safe.
+-- The place stays within the 36 counts, and what is left of them falls.
 use Prim.Native.Nat.{_≤_, _-_}
 use borrow.Author.Needs.{needs}
 use Rattle.replay.proofs.totals.Statement.{statement}

@@ -50,15 +50,17 @@ loop-less : tie.Need-loop-less Inv-loop μ-loop
 loop-less c = omega arith
 
 loop-again : tie.Need-loop-again Inv-loop μ-loop
-loop-again c = (
-  omega arith,
-  omega arith,
-  omega arith,
-  λ p. ⊎-elim
-      (λ w. let q : _≡_ {A = Bool} false true = sym (w .1) ∙ p in let z : _≡_ {A = ℕ} 0 1 = cc in absurd (omega arith))
-      (λ w. span-more (λ k. getD (c .before .before .before .before .before .before .before .args .a .now) k 0 ≡ getD (c .before .before .before .before .before .before .before .args .b .now) k 0) (c .before .before .before .before .before .before .before .args .i) (c .before .before .before .before .loop .j) (c .before .before .before .before .loop .inv .3 (sym (w .1) ∙ p)) (w .0 .left))
-      (c .if3 .came),
-)
+loop-again c =
+    let turn = c .before .before .before .before in
+    let a = turn .before .before .before .args in (
+      omega arith,
+      omega arith,
+      omega arith,
+      λ p. ⊎-elim
+          (λ w. let q : _≡_ {A = Bool} false true = sym (w .1) ∙ p in let z : _≡_ {A = ℕ} 0 1 = cc in absurd (omega arith))
+          (λ w. span-more (λ k. getD (a .a .now) k 0 ≡ getD (a .b .now) k 0) (a .i) (turn .loop .j) (turn .loop .inv .3 (sym (w .1) ∙ p)) (w .0 .left))
+          (c .if3 .came),
+    )
 
 returns-3 : tie.Need-returns-3 Inv-loop μ-loop
 returns-3 c =

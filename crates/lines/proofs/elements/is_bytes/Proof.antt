@@ -1,4 +1,4 @@
--- `lines::elements::is_bytes` is safe: no place past the buffer is read.
+-- The place stays from `at` on, and what is left of the bytes falls.
 use Prim.Native.Nat.{_≤_, _-_}
 use native.Mathlib.Omega.{arith}
 use borrow.Author.Needs.{needs}

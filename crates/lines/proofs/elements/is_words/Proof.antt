@@ -1,4 +1,4 @@
--- `lines::elements::is_words` is safe: no place past the buffer is read.
+-- The place stays within the n numbers of the buffer, and what is left of them falls.
 use Prim.Native.Nat.{_≤_, _-_}
 use borrow.Author.Needs.{needs}
 use Rattle.lines.proofs.elements.is_words.Statement.{statement}

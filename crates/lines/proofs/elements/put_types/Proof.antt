@@ -1,4 +1,4 @@
--- `lines::elements::put_types` meets its contract: what is written stays within the buffer, which keeps its length.
+-- The place stays within the buffer, which keeps its length; what is left of it falls.
 use Prim.Native.Nat.{_≤_, _-_}
 use mathlib.Core.Path.{_≡_}
 use native.Mathlib.Omega.{arith}

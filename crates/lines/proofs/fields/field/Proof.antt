@@ -1,4 +1,4 @@
--- `lines::fields::field` is safe: a field starts within the line.
+-- The start of a field stays within the line, and the fields to pass fall.
 use Prim.Native.Nat.{_≤_}
 use lib.ListN.{length}
 use borrow.Author.Needs.{needs}

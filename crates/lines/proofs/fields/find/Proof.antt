@@ -1,4 +1,4 @@
--- `lines::fields::find` meets its contract. The loop's place is never before the one given.
+-- The place is never before the one given, and what is left of the text falls.
 use Prim.Native.Nat.{_≤_, _-_}
 use native.Mathlib.Omega.{arith}
 use lib.ListN.{length}

@@ -1,4 +1,4 @@
--- `lines::fields::place_of` is safe.
+-- The place stays within the list, and what is left of it falls.
 use Prim.Native.Nat.{_≤_, _-_}
 use lib.ListN.{length}
 use borrow.Author.Needs.{needs}

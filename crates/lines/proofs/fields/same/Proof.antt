@@ -1,4 +1,4 @@
--- `lines::fields::same` is safe: both are as long.
+-- Both are of one length, and the place stays within it; what is left falls.
 use Prim.Native.Nat.{_≤_, _-_}
 use lib.ListN.{length}
 use borrow.Author.Needs.{needs}

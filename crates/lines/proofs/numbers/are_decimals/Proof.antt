@@ -1,4 +1,4 @@
--- `lines::numbers::are_decimals` is safe.
+-- The place stays within the fields asked for, and what is left of them falls.
 use Prim.Native.Nat.{_≤_, _-_}
 use lib.ListN.{length}
 use borrow.Author.Needs.{needs}

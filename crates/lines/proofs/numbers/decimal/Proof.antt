@@ -1,4 +1,4 @@
--- `lines::numbers::decimal` is safe: a number is checked before it grows.
+-- The number stays below 2^64, since it is tested before it grows; what is left of the text falls.
 use Prim.Native.Nat.{_≤_, _-_}
 use lib.ListN.{length}
 use borrow.Author.Needs.{needs}

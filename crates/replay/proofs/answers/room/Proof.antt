@@ -1,4 +1,4 @@
--- `replay::answers::room` meets its contract.
+-- The lesser of the number asked for and the buffer's length.
 use native.Mathlib.Omega.{arith}
 use lib.ListN.{length-take}
 use borrow.Author.Needs.{needs}

@@ -1,4 +1,4 @@
--- `replay::answers::untouched` is safe.
+-- The place stays within the 72,000 bytes of the buffer, and what is left of them falls.
 use Prim.Native.Nat.{_≤_, _-_}
 use borrow.Author.Needs.{needs}
 use Rattle.replay.proofs.answers.untouched.Statement.{statement}

@@ -1,4 +1,4 @@
--- `replay::answers::untouched_words` is safe.
+-- The place stays within the 8,192 words of the buffer, and what is left of them falls.
 use Prim.Native.Nat.{_≤_, _-_}
 use borrow.Author.Needs.{needs}
 use Rattle.replay.proofs.answers.untouched_words.Statement.{statement}

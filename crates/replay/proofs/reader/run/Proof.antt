@@ -1,4 +1,4 @@
--- `replay::reader::run` is safe.
+-- At most 8,193 steps are taken, and what is left of them falls.
 use Prim.Native.Nat.{_≤_, _-_}
 use borrow.Author.Needs.{needs}
 use Rattle.replay.proofs.reader.run.Statement.{statement}

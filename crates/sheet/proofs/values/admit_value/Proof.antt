@@ -17,7 +17,10 @@ returns-3 : tie.Need-returns-3
 returns-3 c = search no-value
 
 returns-4 : tie.Need-returns-4
-returns-4 c = is-value _ _ (c .before .before .before .before .before .before .before .if1 .left) (c .before .before .before .before .before .before .if2 .left) _ _ (c .before .before .before .before .before .value-end .ensures) (c .before .before .before .if3 .left) (c .before .if4 .taken)
+returns-4 c =
+    let c3 = c .before .before .before in
+    let c5 = c3 .before .before in
+    is-value _ _ (c5 .before .before .if1 .left) (c5 .before .if2 .left) _ _ (c5 .value-end .ensures) (c3 .if3 .left) (c .before .if4 .taken)
 
 returns-5 : tie.Need-returns-5
 returns-5 c = search more-words
