@@ -38,6 +38,11 @@ module _ (d : List ℕ) (at : ℕ) where
 pub set-put : (d : List ℕ) (i b : ℕ) → i < length d → set d i b ≡ put d i (b ∷ [])
 set-put d i b h = rw add-one (set-split d i b h)
 
+-- a put behind a put
+pub put-then : (l : List ℕ) (at : ℕ) (xs ys : List ℕ) {m l′ : List ℕ} {a : ℕ} → at + length xs + length ys ≤ length l → a ≡ at + length xs → m ≡ put l at xs → l′ ≡ put m a ys
+    → l′ ≡ put l at (xs ++ ys)
+put-then l at xs ys {a = a} h q e f = f ∙ ap (λ (d : List ℕ). put d a ys) e ∙ ap (λ (k : ℕ). put (put l at xs) k ys) q ∙ put-put l at xs ys h
+
 -- a store, and a put behind it
 pub set-put-cons : (d : List ℕ) (i b : ℕ) (t : List ℕ) → i + 1 + length t ≤ length d → put (set d i b) (i + 1) t ≡ put d i (b ∷ t)
 set-put-cons d i b t h = rw (set-put d i b (omega arith)) (put-put d i (b ∷ []) t h)

@@ -133,12 +133,6 @@ fn refused(refusal: u32, detail: u64) -> Opening
     }
 }
 
-fn wide(x: u8) -> u64
-    ensures { λ r. ⌜ r ≡ x ⌝ }
-{
-    x as u64
-}
-
 // The mark of a string: the work of `str_chars`.
 pub fn open_at(bytes: &[u8]) -> Opening
     ensures { λ r. ⌜ Opens (now (bytes .entry)) (r .refusal) (r .detail) (r .finished) ⌝ }
@@ -154,7 +148,7 @@ pub fn open_at(bytes: &[u8]) -> Opening
             finished: false,
         };
     }
-    refused(format::UNEXPECTED_MARK, wide(mark))
+    refused(format::UNEXPECTED_MARK, format::wide(mark))
 }
 
 // The bytes behind the mark.

@@ -54,7 +54,7 @@ pub record Hands (p : cursor.MovedPayload) (r : TakenPart) (scratch : List ℕ) 
   pub left : scratch ≡ p .scratch
 
 -- the answer and the buffer are those of a definition's step
-pub record Leaves (w : cursor.Wrote) (r : Moved) (buffer : List ℕ) : Type 0 where
+pub record StepLeaves (w : cursor.Wrote) (r : Moved) (buffer : List ℕ) : Type 0 where
   pub answer : wroteOf r ≡ w .answer
   pub left : buffer ≡ w .buffer
 

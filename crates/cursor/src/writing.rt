@@ -5,12 +5,11 @@ use crate::depth_of;
 use format::Length;
 use scalar::UnionTag;
 ghost use mathlib.Core.Path.{_≡_};
-ghost use Rattle.format.specs.Lengths.{lengthIn};
+ghost use Rattle.format.specs.Lengths.{lengthIn, Leaves};
 ghost use Rattle.format.specs.Scalar.{tagBytes};
 ghost use Rattle.format.specs.Fields.{putAt};
 ghost use Rattle.format.specs.Cursor as cursor;
-ghost use Rattle.scalar.specs.Answers.{Puts};
-ghost use Rattle.cursor.specs.Steps.{cursorOf, wroteOf, putMoved, Leaves};
+ghost use Rattle.cursor.specs.Steps.{cursorOf, wroteOf, putMoved, StepLeaves};
 
 // The cursor behind what was put, at a depth.
 fn wrote(put: Length, depth: u32) -> Moved
@@ -24,7 +23,7 @@ fn wrote(put: Length, depth: u32) -> Moved
 
 // Puts bytes as they stand.
 fn put_plain(buf: &mut [u8], at: usize, bytes: &[u8]) -> Length
-    ensures { λ r. ⌜ Puts (putAt (now (buf .entry)) at (now (bytes .entry))) r (now (buf .exit)) ⌝ }
+    ensures { λ r. ⌜ Leaves (putAt (now (buf .entry)) at (now (bytes .entry))) r (now (buf .exit)) ⌝ }
 {
     let n = bytes.len();
     match scalar::puts::room(buf.len(), at, 0, n) {
@@ -38,7 +37,7 @@ fn put_plain(buf: &mut [u8], at: usize, bytes: &[u8]) -> Length
 
 // Puts a union's tag.
 fn put_tag(buf: &mut [u8], at: usize, disc: u32) -> Length
-    ensures { λ r. ⌜ Puts (putAt (now (buf .entry)) at (tagBytes disc)) r (now (buf .exit)) ⌝ }
+    ensures { λ r. ⌜ Leaves (putAt (now (buf .entry)) at (tagBytes disc)) r (now (buf .exit)) ⌝ }
 {
     let tag = UnionTag::new(disc);
     let bytes = tag.bytes;
@@ -48,7 +47,7 @@ fn put_tag(buf: &mut [u8], at: usize, disc: u32) -> Length
 
 // Puts a null. Inside a group 00 alone would be its end, so the escape follows.
 pub fn put_null(buf: &mut [u8], c: Cursor) -> Moved
-    ensures { λ r. ⌜ Leaves (cursor.putNull (now (buf .entry)) (cursorOf c)) r (now (buf .exit)) ⌝ }
+    ensures { λ r. ⌜ StepLeaves (cursor.putNull (now (buf .entry)) (cursorOf c)) r (now (buf .exit)) ⌝ }
 {
     let at = c.at;
     let depth = depth_of(c);
@@ -62,7 +61,7 @@ pub fn put_null(buf: &mut [u8], c: Cursor) -> Moved
 
 // Puts a signed integer, given as its word.
 pub fn put_i64(buf: &mut [u8], c: Cursor, w: u64) -> Moved
-    ensures { λ r. ⌜ Leaves (cursor.putI64 (now (buf .entry)) (cursorOf c) w) r (now (buf .exit)) ⌝ }
+    ensures { λ r. ⌜ StepLeaves (cursor.putI64 (now (buf .entry)) (cursorOf c) w) r (now (buf .exit)) ⌝ }
 {
     let at = c.at;
     wrote(scalar::put_i64(buf, at, w), depth_of(c))
@@ -70,7 +69,7 @@ pub fn put_i64(buf: &mut [u8], c: Cursor, w: u64) -> Moved
 
 // Puts an unsigned integer.
 pub fn put_u64(buf: &mut [u8], c: Cursor, n: u64) -> Moved
-    ensures { λ r. ⌜ Leaves (cursor.putU64 (now (buf .entry)) (cursorOf c) n) r (now (buf .exit)) ⌝ }
+    ensures { λ r. ⌜ StepLeaves (cursor.putU64 (now (buf .entry)) (cursorOf c) n) r (now (buf .exit)) ⌝ }
 {
     let at = c.at;
     wrote(scalar::put_u64(buf, at, n), depth_of(c))
@@ -78,7 +77,7 @@ pub fn put_u64(buf: &mut [u8], c: Cursor, n: u64) -> Moved
 
 // Puts text. Bytes that are not UTF-8 are refused.
 pub fn put_str(buf: &mut [u8], c: Cursor, text: &[u8]) -> Moved
-    ensures { λ r. ⌜ Leaves (cursor.putStr (now (buf .entry)) (cursorOf c) (now (text .entry))) r (now (buf .exit)) ⌝ }
+    ensures { λ r. ⌜ StepLeaves (cursor.putStr (now (buf .entry)) (cursorOf c) (now (text .entry))) r (now (buf .exit)) ⌝ }
 {
     let at = c.at;
     wrote(scalar::put_str(buf, at, text), depth_of(c))
@@ -86,7 +85,7 @@ pub fn put_str(buf: &mut [u8], c: Cursor, text: &[u8]) -> Moved
 
 // Puts bytes.
 pub fn put_bytes(buf: &mut [u8], c: Cursor, payload: &[u8]) -> Moved
-    ensures { λ r. ⌜ Leaves (cursor.putBytes (now (buf .entry)) (cursorOf c) (now (payload .entry))) r (now (buf .exit)) ⌝ }
+    ensures { λ r. ⌜ StepLeaves (cursor.putBytes (now (buf .entry)) (cursorOf c) (now (payload .entry))) r (now (buf .exit)) ⌝ }
 {
     let at = c.at;
     wrote(scalar::put_bytes(buf, at, payload), depth_of(c))
@@ -94,7 +93,7 @@ pub fn put_bytes(buf: &mut [u8], c: Cursor, payload: &[u8]) -> Moved
 
 // Puts a reference, unchecked.
 pub fn put_fact_id(buf: &mut [u8], c: Cursor, raw: u64) -> Moved
-    ensures { λ r. ⌜ Leaves (cursor.putFactId (now (buf .entry)) (cursorOf c) raw) r (now (buf .exit)) ⌝ }
+    ensures { λ r. ⌜ StepLeaves (cursor.putFactId (now (buf .entry)) (cursorOf c) raw) r (now (buf .exit)) ⌝ }
 {
     let at = c.at;
     wrote(scalar::put_fact_id(buf, at, raw), depth_of(c))
@@ -102,7 +101,7 @@ pub fn put_fact_id(buf: &mut [u8], c: Cursor, raw: u64) -> Moved
 
 // Opens a record.
 pub fn put_record(buf: &mut [u8], c: Cursor) -> Moved
-    ensures { λ r. ⌜ Leaves (cursor.putRecord (now (buf .entry)) (cursorOf c)) r (now (buf .exit)) ⌝ }
+    ensures { λ r. ⌜ StepLeaves (cursor.putRecord (now (buf .entry)) (cursorOf c)) r (now (buf .exit)) ⌝ }
 {
     let at = c.at;
     let depth = depth_of(c);
@@ -115,7 +114,7 @@ pub fn put_record(buf: &mut [u8], c: Cursor) -> Moved
 
 // Opens a union: its mark and its discriminant.
 pub fn put_union(buf: &mut [u8], c: Cursor, disc: u32) -> Moved
-    ensures { λ r. ⌜ Leaves (cursor.putUnion (now (buf .entry)) (cursorOf c) disc) r (now (buf .exit)) ⌝ }
+    ensures { λ r. ⌜ StepLeaves (cursor.putUnion (now (buf .entry)) (cursorOf c) disc) r (now (buf .exit)) ⌝ }
 {
     let at = c.at;
     let depth = depth_of(c);
@@ -127,7 +126,7 @@ pub fn put_union(buf: &mut [u8], c: Cursor, disc: u32) -> Moved
 
 // Ends the open group. At depth 0 none is open, whatever room there is.
 pub fn put_end(buf: &mut [u8], c: Cursor) -> Moved
-    ensures { λ r. ⌜ Leaves (cursor.putEnd (now (buf .entry)) (cursorOf c)) r (now (buf .exit)) ⌝ }
+    ensures { λ r. ⌜ StepLeaves (cursor.putEnd (now (buf .entry)) (cursorOf c)) r (now (buf .exit)) ⌝ }
 {
     if c.depth == 0 {
         return Moved::Refused(format::BAD_RECORD, 0);

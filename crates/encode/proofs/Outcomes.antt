@@ -8,6 +8,7 @@ use native.Mathlib.Omega.{arith}
 use native.Mathlib.Nat.{zero-add}
 use borrow.Author.Tests.{le-leb, lt-leb, lt-ltb, not-true, not-false}
 use lib.ListN.{length}
+use Rattle.format.specs.Lengths.{Leaves}
 use Rattle.format.specs.Answer.{Answer, ok, refused, BadType, BadValue, NoRoom, KeyTooLong}
 use Rattle.format.specs.Tree.{Ty, Val}
 use Rattle.format.specs.TypeSheet.{typeOf, isSome}
@@ -18,7 +19,7 @@ use Rattle.format.specs.Fields.{put}
 use Rattle.format.specs.declared.Length.the-variants.{Done, Refused}
 use Rattle.format.proofs.TypeLaws.{some-of}
 use Rattle.format.proofs.FitLaws.{clash}
-use Rattle.encode.specs.Encoded.{Answers, sized, keyOf, Sheets}
+use Rattle.encode.specs.Encoded.{sized, keyOf, Sheets}
 use Rattle.encode.proofs.Keys.{key-is}
 
 none-of : {A : Type 0} (o : Option A) → isSome o ≡ false → o ≡ none
@@ -42,22 +43,22 @@ called F ty words pool out = written out (withType (typeOf ty) (λ t. withValue 
 
 module _ (F : Ty → Val → Answer (List ℕ)) where
   module _ (ty words pool out : List ℕ) (r : Bool) (is : r ≡ isSome (typeOf ty)) where
-    pub bad-type : not r ≡ true → Answers (called F ty words pool out) (Refused BadType 0) out
-    bad-type h = rw (none-of (typeOf ty) (sym is ∙ not-true r h)) (refl, refl)
+    pub bad-type : not r ≡ true → Leaves (called F ty words pool out) (Refused BadType 0) out
+    bad-type h = rw (none-of (typeOf ty) (sym is ∙ not-true r h)) (record { answer = refl; left = refl })
 
-    pub bad-value : not r ≡ false → (q : Bool) → q ≡ isSome (valueOf words pool) → not q ≡ true → Answers (called F ty words pool out) (Refused BadValue 0) out
-    bad-value g q e h = rw (some-of (typeOf ty) (sym is ∙ not-false r g) .1, none-of (valueOf words pool) (sym e ∙ not-true q h)) (refl, refl)
+    pub bad-value : not r ≡ false → (q : Bool) → q ≡ isSome (valueOf words pool) → not q ≡ true → Leaves (called F ty words pool out) (Refused BadValue 0) out
+    bad-value g q e h = rw (some-of (typeOf ty) (sym is ∙ not-false r g) .1, none-of (valueOf words pool) (sym e ∙ not-true q h)) (record { answer = refl; left = refl })
 
   module _ {ty words pool : List ℕ} (s : Sheets ty words pool) (out : List ℕ) where
-    pub refuses : (n d : ℕ) → F (s .t) (s .v) ≡ refused n d → Answers (called F ty words pool out) (Refused n d) out
-    refuses n d e = rw (s .is-type, s .is-value, e) (refl, refl)
+    pub refuses : (n d : ℕ) → F (s .t) (s .v) ≡ refused n d → Leaves (called F ty words pool out) (Refused n d) out
+    refuses n d e = rw (s .is-type, s .is-value, e) (record { answer = refl; left = refl })
 
     module _ {bs : List ℕ} (is : F (s .t) (s .v) ≡ ok bs) {n : ℕ} (long : n ≡ length bs) where
-      pub no-room : length out < n → n < 2 ^ 64 → Answers (called F ty words pool out) (Refused NoRoom n) out
-      no-room h g = rw (s .is-type, s .is-value, is, lt-leb (length bs) (length out) (omega arith), lt-ltb (length bs) (2 ^ 64) (omega arith)) (ap (refused NoRoom) long, refl)
+      pub no-room : length out < n → n < 2 ^ 64 → Leaves (called F ty words pool out) (Refused NoRoom n) out
+      no-room h g = rw (s .is-type, s .is-value, is, lt-leb (length bs) (length out) (omega arith), lt-ltb (length bs) (2 ^ 64) (omega arith)) (record { answer = ap (refused NoRoom) long; left = refl })
 
-      pub done : n ≤ length out → {l′ : List ℕ} → (length bs ≤ length out → l′ ≡ put out 0 bs) → Answers (called F ty words pool out) (Done n) l′
-      done h wrote = rw (s .is-type, s .is-value, is, le-leb (length bs) (length out) (omega arith)) (ap ok long, wrote (omega arith) ∙ rw zero-add)
+      pub done : n ≤ length out → {l′ : List ℕ} → (length bs ≤ length out → l′ ≡ put out 0 bs) → Leaves (called F ty words pool out) (Done n) l′
+      done h wrote = rw (s .is-type, s .is-value, is, le-leb (length bs) (length out) (omega arith)) (record { answer = ap ok long; left = wrote (omega arith) ∙ rw zero-add })
 
 -- ---- the length limit of a key
 

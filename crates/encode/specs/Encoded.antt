@@ -1,4 +1,4 @@
--- What an answer of the encoding calls says, and what the two passes over a key promise.
+-- What the two passes over a key promise.
 use mathlib.Core.Path.{_≡_}
 use mathlib.Core.Option.{some}
 use mathlib.Core.List.{List}
@@ -10,15 +10,9 @@ use Rattle.format.specs.TypeSheet.{typeOf}
 use Rattle.format.specs.ValueSheet.{valueOf}
 use Rattle.format.specs.Encode.{keyBytes}
 use Rattle.format.specs.Fields.{put}
-use Rattle.format.specs.Calls.{Called, withType, withValue}
-use Rattle.format.specs.Lengths.{lengthIn}
-use Rattle.format.specs.declared.Length.{Length}
+use Rattle.format.specs.Calls.{withType, withValue}
 use Rattle.fit.specs.declared.Fitted.{Fitted}
 use Rattle.fit.specs.declared.Fitted.the-variants.{Fits, Refused}
-
--- the answer is the call's, and so is what it left in the buffer
-abbrev pub Answers : Called ℕ → Length → List ℕ → Type 0
-Answers call r l = (lengthIn r ≡ call .answer) × (l ≡ call .buffer)
 
 -- the length that was measured, and that of the bytes
 abbrev pub sizeIn : Fitted → Answer ℕ

@@ -4,12 +4,13 @@ use format::Length;
 ghost use mathlib.Core.Path.{_≡_};
 ghost use lib.Dec.{eqb};
 ghost use lib.ListN.{getD};
+ghost use Rattle.format.specs.Lengths.{Leaves};
 ghost use Rattle.format.specs.Calls.{encodeTypedCall, encodeKeyCall};
-ghost use Rattle.encode.specs.Encoded.{Answers, sizeIn, sized, keyOf, Sheets, Accepted, PutKey};
+ghost use Rattle.encode.specs.Encoded.{sizeIn, sized, keyOf, Sheets, Accepted, PutKey};
 
 // Encodes a value under its type at the buffer's beginning.
 pub fn encode_typed(ty: &[u32], words: &[u64], pool: &[u8], out: &mut [u8]) -> Length
-    ensures { λ r. ⌜ Answers (encodeTypedCall (now (ty .entry)) (now (words .entry)) (now (pool .entry)) (now (out .entry))) r (now (out .exit)) ⌝ }
+    ensures { λ r. ⌜ Leaves (encodeTypedCall (now (ty .entry)) (now (words .entry)) (now (pool .entry)) (now (out .entry))) r (now (out .exit)) ⌝ }
 {
     if !sheet::admit_type(ty) {
         return Length::Refused(format::BAD_TYPE, 0);
@@ -77,7 +78,7 @@ fn put_key(ty: &[u32], words: &[u64], pool: &[u8], out: &mut [u8])
 
 // Encodes a value as a key of its type at the buffer's beginning.
 pub fn encode_key(ty: &[u32], words: &[u64], pool: &[u8], out: &mut [u8]) -> Length
-    ensures { λ r. ⌜ Answers (encodeKeyCall (now (ty .entry)) (now (words .entry)) (now (pool .entry)) (now (out .entry))) r (now (out .exit)) ⌝ }
+    ensures { λ r. ⌜ Leaves (encodeKeyCall (now (ty .entry)) (now (words .entry)) (now (pool .entry)) (now (out .entry))) r (now (out .exit)) ⌝ }
 {
     if !sheet::admit_type(ty) {
         return Length::Refused(format::BAD_TYPE, 0);

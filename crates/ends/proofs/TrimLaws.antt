@@ -7,12 +7,13 @@ use native.Mathlib.Numerals.{add-one}
 use borrow.Author.Tests.{ne-eqb, lt-ltb, le-leb, lt-leb}
 use lib.ListN.{length, take, drop, getD, set, length-append, length-take}
 use lib.Seq.{take-suc, take-all, slice, drop-cons, set-at}
+use Rattle.format.specs.Lengths.{Leaves}
 use Rattle.format.specs.Answer.{ok, refused, NoBound, NoRoom}
 use Rattle.format.specs.Bounds.{before, trimmed, raised, raisedOr, strinc, aboveField}
 use Rattle.format.specs.Calls.{over, written, strincCall, aboveFieldCall}
 use Rattle.format.specs.Fields.{put}
 use Rattle.format.specs.declared.Length.the-variants.{Done, Refused}
-use Rattle.ends.specs.Ends.{Trims, Leaves}
+use Rattle.ends.specs.Ends.{Trims}
 
 -- a trailing FF is dropped
 pub trim-last : (s : List ℕ) → trimmed (s ++ 0xFF ∷ []) ≡ trimmed s

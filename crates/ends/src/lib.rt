@@ -1,7 +1,8 @@
 // Ends of ranges of keys: strinc and above_field.
 use format::Length;
+ghost use Rattle.format.specs.Lengths.{Leaves};
 ghost use Rattle.format.specs.Calls.{strincCall, aboveFieldCall};
-ghost use Rattle.ends.specs.Ends.{Trims, Leaves};
+ghost use Rattle.ends.specs.Ends.{Trims};
 
 // How many bytes a prefix has without its trailing FF.
 fn trimmed_len(prefix: &[u8]) -> usize

@@ -12,7 +12,7 @@ use Rattle.format.specs.Fields.{put}
 use Rattle.format.proofs.SheetPlaces.{front}
 use Rattle.format.proofs.Sound.{Sound}
 use Rattle.format.proofs.MarkLaws.{markKind, first}
-use Rattle.blocks.proofs.Put.{put-put, set-put, set-put-cons}
+use Rattle.blocks.proofs.Put.{set-put, set-put-cons}
 
 -- the byte at a place, and the bytes behind it
 pub head-at : (bs : List ℕ) (i : ℕ) {m : ℕ} {t : List ℕ} → drop i bs ≡ m ∷ t → (i < length bs) × (getD bs i 0 ≡ m) × (drop (i + 1) bs ≡ t)
@@ -43,11 +43,6 @@ pub pair-put : (d : List ℕ) (at x y : ℕ) → at + 2 ≤ length d → set (se
 pair-put d at x y h =
     let n : at + 1 < length (set d at x) = simp length-set (omega arith) in
     set-put (set d at x) (at + 1) y n ∙ set-put-cons d at x (y ∷ []) (omega arith)
-
--- a put behind a put
-pub put-then : (l : List ℕ) (at : ℕ) (xs ys : List ℕ) {m l′ : List ℕ} {a : ℕ} → at + length xs + length ys ≤ length l → a ≡ at + length xs → m ≡ put l at xs → l′ ≡ put m a ys
-    → l′ ≡ put l at (xs ++ ys)
-put-then l at xs ys {a = a} h q e f = f ∙ ap (λ (d : List ℕ). put d a ys) e ∙ ap (λ (k : ℕ). put (put l at xs) k ys) q ∙ put-put l at xs ys h
 
 -- the second of two words
 pub second-put : (d : List ℕ) (at x y : ℕ) → at + 2 ≤ length d → getD (put d at (x ∷ y ∷ [])) (at + 1) 0 ≡ y

@@ -24,8 +24,8 @@ use Rattle.format.proofs.FitLaws.{of-value, clash, fields-fit, payload-fits, bo
 use Rattle.format.proofs.MarkLaws.{markKind}
 use Rattle.format.proofs.OrderLaws.{marked}
 use Rattle.format.proofs.RoundLaws.{not-null, starts-vals, ends}
-use Rattle.blocks.proofs.Put.{put-none, length-put}
-use Rattle.fill.proofs.PlaceLaws.{head-at, kind-at, put-before, put-then}
+use Rattle.blocks.proofs.Put.{put-none, length-put, put-then}
+use Rattle.fill.proofs.PlaceLaws.{head-at, kind-at, put-before}
 use Rattle.fill.proofs.LeafLaws.{some-kind}
 use Rattle.fill.specs.declared.Filled.{Filled}
 use Rattle.fill.specs.Fill.{Lent, lent, standing, opens, fieldsEnd, Behind, Ready, Onward, NumberFilled, Done, One, Row, GroupFilled, LeafFilled, FieldsFilled, behindLeaf}

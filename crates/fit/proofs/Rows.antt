@@ -5,7 +5,7 @@ use mathlib.Core.Bool.{Bool, true}
 use Prim.Native.Nat.{ℕ, _+_, _-_, _≤_, _<_}
 use native.Mathlib.Omega.{arith}
 use lib.ListN.{length, length-append}
-use Rattle.format.specs.Answer.{Answer, refused, andThen}
+use Rattle.format.specs.Answer.{Answer, andThen}
 use Rattle.format.specs.Tree.{Ty, Tys, Val, Vals}
 use Rattle.format.specs.Sheet.{fieldCount, valCount, tyWords, valWords, valPool}
 use Rattle.format.specs.TypeSheet.{nesting, nestings, maxGroups}

@@ -1,11 +1,9 @@
 -- What encode_key gives for a record with a new value in one field: what the value's own encoding gives, and the length of the key with its bytes spliced in.
-use mathlib.Core.Path.{_≡_, refl, sym, ap, _∙_}
+use mathlib.Core.Path.{_≡_, refl, sym, _∙_}
 use mathlib.Core.List.{List, _++_}
-use Prim.Native.Nat.{ℕ, _+_, _-_, _≤_, _<_}
-use native.Mathlib.Omega.{arith}
-use lib.Dec.{eqb, leb}
-use lib.ListN.{length, take, drop, length-append, length-take, length-drop}
-use Rattle.format.specs.Answer.{Answer, ok, refused, andThen, if, KeyTooLong, BadRecord}
+use Prim.Native.Nat.{ℕ, _+_, _≤_, _<_}
+use lib.ListN.{length, take, drop}
+use Rattle.format.specs.Answer.{Answer, ok, refused, andThen, KeyTooLong}
 use Rattle.format.specs.Tree.{Ty, Tys, Val, Vals}
 use Rattle.format.specs.Sheet.{fieldCount, valCount}
 use Rattle.format.specs.Encode.{valBytes, valsBytes, encode, encodeKey, keyBytes, fits, fitsAll, maxKeyBytes, fine}
@@ -13,7 +11,7 @@ use Rattle.format.specs.Bounds.{firstBytes}
 use Rattle.format.specs.Replace.{fieldAt, setField, spliced}
 use Rattle.format.proofs.Tests.{leb-yes, leb-no, eqb-yes}
 use Rattle.format.proofs.EncodeLaws.{fits-count, accepted, key-made}
-use Rattle.format.proofs.ReplaceLaws.{fieldType, refit, splice-is, set-count}
+use Rattle.format.proofs.ReplaceLaws.{fieldType, refit, set-count}
 
 module _ (ts : Tys) (vs : Vals) (k : ℕ) (u : Val) (l : k < valCount vs) (f : fitsAll ts 0 vs ≡ fine) where
   same-count : fieldCount ts ≡ valCount (setField k u vs)
@@ -51,6 +49,3 @@ pub spliced-is : (k : ℕ) (u : Val) (vs : Vals) (key : List ℕ) (p e : ℕ) �
     → spliced k u vs key ≡ take p key ++ (valBytes 0 u ++ drop e key)
 unfolding spliced
 spliced-is k u vs key p e q r = rw (q, r)
-
-pub spliced-long : (u : Val) (key : List ℕ) (p e : ℕ) → p ≤ e → e ≤ length key → length (take p key ++ (valBytes 0 u ++ drop e key)) ≡ p + (length (valBytes 0 u) + (length key - e))
-spliced-long u key p e h l = simp (length-append, length-take, length-drop) (omega arith)

@@ -1,7 +1,6 @@
 -- What an accepted encoding says: its bytes are the value's. So encodings and keys of one type compare as bytes as their values do, and are equal
 -- exactly if their values are.
 use mathlib.Core.Path.{_≡_, refl, sym, ap, _∙_, subst, ap₂}
-use mathlib.Core.Logic.{_↔_}
 use mathlib.Core.List.{List, [], _++_, append-nil}
 use Prim.Native.Nat.{ℕ, suc, _≤_}
 use native.Mathlib.Omega.{arith}
@@ -12,14 +11,13 @@ use Rattle.format.specs.Tree.{Ty, Tys, Val, Vals, valKind, fieldsIn}
 use Rattle.format.specs.Sheet.{fieldCount, valCount}
 use Rattle.format.specs.Encode.{valsBytes, encode, encodeTyped, keyBytes, encodeKey, maxKeyBytes, fits, fitsAll, ofKind, fine}
 use Rattle.format.specs.Order.{then, cmpBytes, cmpVal}
-use Rattle.format.proofs.CompareLaws.{then-eq, cmpBytes-refl}
+use Rattle.format.proofs.CompareLaws.{then-eq}
 use Rattle.format.proofs.Tests.{leb-test, eqb-test, leb-yes, eqb-yes, passed}
 use Rattle.format.proofs.ScalarLaws.{Low, low-nil}
 use Rattle.format.proofs.Sound.{Sound}
 use Rattle.format.proofs.KindLaws.{built, built-is}
 use Rattle.format.proofs.OrderLaws.{order}
 use Rattle.format.proofs.KeyLaws.{fields-order}
-use Rattle.format.proofs.EqualLaws.{cmpVal-eq}
 
 -- ---- answers taken apart
 
@@ -113,8 +111,3 @@ key-order (Ty.Record ts) a b x y ea eb wa wb =
     let p = key-parts ts a x ea in
     let q = key-parts ts b y eb in
     rw (← (p .2), ← (q .2), fields-order 0 (fieldsIn a) (fieldsIn b) (subst Sound (p .0) wa) (subst Sound (q .0) wb)) (sym (ap₂ cmpVal (p .0) (q .0)))
-
--- and are equal exactly if their values are
-pub key-equal : (t : Ty) (a b : Val) (x y : List ℕ) → keyBytes t a ≡ ok x → keyBytes t b ≡ ok y → Sound a → Sound b → (x ≡ y) ↔ (a ≡ b)
-key-equal t a b x y ea eb wa wb =
-    (λ e. cmpVal-eq a b wa wb (sym (key-order t a b x y ea eb wa wb) ∙ ap (cmpBytes x) (sym e) ∙ cmpBytes-refl x), λ e. let f : ok x ≡ ok y = sym ea ∙ ap (keyBytes t) e ∙ eb in cc)

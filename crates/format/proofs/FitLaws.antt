@@ -1,15 +1,15 @@
 -- What fits a type and what is refused, by the kinds of the two: what the encoder's walks go by.
 use mathlib.Core.Path.{_≡_, refl, sym, ap, _∙_, subst}
 use mathlib.Core.Bool.{Bool, true, false}
-use mathlib.Core.Option.{Option, some, none}
+use mathlib.Core.Option.{some}
 use Prim.Native.Nat.{ℕ, zero, suc, _+_, _≤_, max}
 use native.Mathlib.Omega.{arith}
 use lib.Dec.{eqb, ltb}
 use Rattle.format.specs.Answer.{if, Answer, ok, refused, andThen, TypeMismatch, BadUnion}
-use Rattle.format.specs.Tree.{Ty, Tys, Alts, Val, Vals, valKind, numberIn, fieldsIn, payloadIn}
+use Rattle.format.specs.Tree.{Ty, Tys, Alts, Val, Vals, valKind}
 use Rattle.format.specs.Sheet.{fieldCount, valCount}
 use Rattle.format.specs.TypeSheet.{nesting, altNestings}
-use Rattle.format.specs.Encode.{fits, fitsAll, fitsUnion, fitsRef, ofKind, inUnion, groupAt, fine, maxDepth}
+use Rattle.format.specs.Encode.{fits, fitsAll, fitsUnion, ofKind, inUnion, groupAt, fine, maxDepth}
 use Rattle.format.proofs.Tests.{eqb-no}
 use Rattle.format.proofs.KindLaws.{built, built-is}
 use Rattle.format.proofs.TypePlaces.{tyKind}
@@ -76,13 +76,9 @@ value-kinds (Val.Ref r) = omega arith
 value-kinds (Val.Record vs) = omega arith
 value-kinds (Val.Union d v) = omega arith
 
--- what holds of the value of a kind, and of the type and the value of one kind
+-- what holds of the value of a kind
 pub of-value : (P : Val → Type 0) (k : ℕ) (v : Val) → valKind v ≡ k → P (built k v) → P v
 of-value P k v e h = subst P (sym (built-is v ∙ ap (λ (n : ℕ). built n v) e)) h
-
-pub of-kinds : (P : Ty → Val → Type 0) (k : ℕ) (t : Ty) (v : Val) → tyKind t ≡ k → valKind v ≡ k → P (typed k t) (built k v) → P t v
-of-kinds P k t v e f h =
-    subst (λ (s : Ty). P s v) (sym (typed-is t ∙ ap (λ (n : ℕ). typed n t) e)) (of-value (P (typed k t)) k v f h)
 
 -- ---- a value of another kind
 

@@ -1,12 +1,12 @@
 -- A sheet is admitted exactly where it writes a tree down that is not too deep and not too long, and it writes one tree only.
-use Prim.Native.Nat.{ℕ, zero, suc, _+_, _≤_, _<_, max}
+use Prim.Native.Nat.{ℕ, zero, suc, _≤_, max}
 use mathlib.Core.List.{List, [], _∷_, _++_, append-assoc, append-nil}
 use mathlib.Core.Path.{_≡_, refl, ap, sym, _∙_, subst}
 use mathlib.Core.Logic.{_↔_}
 use mathlib.Core.Bool.{Bool, true, false}
 use mathlib.Core.Option.{Option, some, none}
 use lib.Dec.{leb}
-use borrow.Author.Tests.{leb-true, leb-false, le-leb}
+use borrow.Author.Tests.{leb-true, le-leb}
 use native.Mathlib.Omega.{arith}
 use lib.ListN.{length}
 use Rattle.format.specs.Tree.{Ty, Tys, Alts}
@@ -116,12 +116,6 @@ type-reads (suc g) w =
 
 pub read-words : (g : ℕ) (w : List ℕ) {t : Ty} {r : List ℕ} → typeAt g w ≡ got t r → (w ≡ tyWords t ++ r) × (nesting t ≤ g)
 read-words g w e = subst (Reads g w) e (type-reads g w)
-
--- Room for more groups changes nothing.
-pub more-groups : (g k : ℕ) (w : List ℕ) {t : Ty} {r : List ℕ} → g ≤ k → typeAt g w ≡ got t r → typeAt k w ≡ got t r
-more-groups g k w {t} {r} h e =
-    let f = read-words g w e in
-    subst (λ (l : List ℕ). typeAt k l ≡ got t r) (sym (f .0)) (reads-back t k r (omega (arith, f .1)))
 
 -- The words of one tree are never the beginning of another's.
 pub one-tree : (t t′ : Ty) (r r′ : List ℕ) → tyWords t ++ r ≡ tyWords t′ ++ r′ → (t ≡ t′) × (r ≡ r′)

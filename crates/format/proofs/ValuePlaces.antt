@@ -1,13 +1,12 @@
 -- The trees of a value sheet by their places: what a walk over an admitted sheet goes by.
-use Prim.Native.Nat.{ℕ, _+_, _≤_, _<_}
-use mathlib.Core.List.{List, [], _∷_, _++_}
-use mathlib.Core.Path.{_≡_, refl, ap, _∙_}
-use lib.ListN.{length, take, drop, getD}
+use Prim.Native.Nat.{ℕ, _+_, _<_}
+use mathlib.Core.List.{List, [], _∷_}
+use mathlib.Core.Path.{_≡_, refl}
+use lib.ListN.{length, getD}
 use Rattle.format.specs.Tree.{Val, Vals, valKind}
 use Rattle.format.specs.Sheet.{valWords, valsWords, valPool, valsPool, valCount}
-use Rattle.format.specs.ValueSheet.{got, valueAt, nesting, Proper, Admitted}
-use Rattle.format.proofs.ValueLaws.{reads-back}
-use Rattle.format.proofs.SheetPlaces.{Span, all-words, parts, first, first2, taken}
+use Rattle.format.specs.ValueSheet.{Admitted}
+use Rattle.format.proofs.SheetPlaces.{Span, all-words, parts, first, first2}
 
 -- the value v stands in the words w from p up to e, with its bytes in the pool b from q up to f
 pub record ValueIn (w b : List ℕ) (p q : ℕ) (v : Val) (e f : ℕ) : Type 0 where
@@ -20,10 +19,6 @@ pub record ValuesIn (w b : List ℕ) (p q : ℕ) (vs : Vals) (e f : ℕ) : Type 
 
 pub top : (w b : List ℕ) (v : Val) → Admitted w b v → ValueIn w b 0 0 v (length w) (length b)
 top w b v a = record { words = all-words w (valWords v) (a .words); pool = all-words b (valPool v) (a .pool) }
-
--- what stands at a place is what is read there
-pub value-read : (w b : List ℕ) (p q e f g : ℕ) (v : Val) → ValueIn w b p q v e f → nesting v ≤ g → Proper v → valueAt g (drop p w) (drop q b) ≡ got v (drop e w) (drop f b)
-value-read w b p q e f g v i d o = ap (λ (l : List ℕ). valueAt g l (drop q b)) (i .words .is) ∙ ap (valueAt g (valWords v ++ drop e w)) (i .pool .is) ∙ reads-back v g (drop e w) (drop f b) d o
 
 -- the second word of a value
 abbrev pub wordOf : Val → ℕ
@@ -55,15 +50,6 @@ module _ (w b : List ℕ) (p q e f : ℕ) where
   word-is (Val.Ref x) i z = let k = first2 w p e 4 x [] (i .words) in (k .0, k .1)
   word-is (Val.Record vs) i z = let k = first2 w p e 5 (valCount vs) (valsWords vs) (i .words) in (k .0, k .1)
   word-is (Val.Union d v) i z = let k = first2 w p e 6 d (valWords v) (i .words) in (k .0, k .1)
-
-  -- the bytes of a Str or of Bytes
-  pub str-bytes : (l : List ℕ) → ValueIn w b p q (Val.Str l) e f → (take (length l) (drop q b) ≡ l) × (q + length l ≡ f) × (f ≤ length b)
-  unfolding valPool
-  str-bytes l i = taken b q f l (i .pool)
-
-  pub raw-bytes : (l : List ℕ) → ValueIn w b p q (Val.Bytes l) e f → (take (length l) (drop q b) ≡ l) × (q + length l ≡ f) × (f ≤ length b)
-  unfolding valPool
-  raw-bytes l i = taken b q f l (i .pool)
 
   -- a record's fields, and a union's payload
   pub record-in : (vs : Vals) → ValueIn w b p q (Val.Record vs) e f → ValuesIn w b (p + 2) q vs e f

@@ -18,6 +18,7 @@ use Rattle.format.specs.Decode.{Decoded, decodeKey}
 use Rattle.format.specs.Bounds.{firstBytes}
 use Rattle.format.specs.Replace.{setField, spliced}
 use Rattle.format.specs.Calls.{written, withValue, replaced, bounded, boundsCall, replaceCall}
+use Rattle.format.specs.Lengths.{Leaves}
 use Rattle.format.specs.declared.Length.{Length}
 use Rattle.format.proofs.Bytes.{AllBytes}
 use Rattle.format.proofs.Tests.{leb-yes, leb-no, ltb-yes, ltb-no, Test, holds, fails, leb-test}
@@ -32,7 +33,7 @@ use Rattle.key.specs.declared.bounding.Bounded.the-variants as bounding
 use Rattle.key.specs.declared.passing.Field.{Field}
 use Rattle.key.specs.declared.passing.Field.the-variants as field
 use Rattle.key.specs.Passing.{SplitSays, Splits, FieldIn, FindSays, Finds}
-use Rattle.key.specs.Keys.{BoundsLeft, ReplaceLeft, ValueStands, with, put}
+use Rattle.key.specs.Keys.{BoundsLeft, ValueStands, with, put}
 
 -- ---- the type sheet
 
@@ -196,15 +197,15 @@ module _ {ty : List ℕ} {n : ℕ} {key : List ℕ} {k : ℕ} (f : FieldsAt ty 2
 
 module _ (ty buffer : List ℕ) (used k : ℕ) (words pool : List ℕ) {b : Bool} (said : b ≡ isSome (typeOf ty)) where
   left-alone : (n d : ℕ) → replaceCall ty buffer used k words pool ≡ record { answer = refused n d; buffer = buffer }
-      → ReplaceLeft (replaceCall ty buffer used k words pool) (Length.Refused n d) buffer
+      → Leaves (replaceCall ty buffer used k words pool) (Length.Refused n d) buffer
   left-alone n d e = rw e (record { answer = refl; left = refl })
 
-  pub r-type : not b ≡ true → ReplaceLeft (replaceCall ty buffer used k words pool) (Length.Refused BadType 0) buffer
+  pub r-type : not b ≡ true → Leaves (replaceCall ty buffer used k words pool) (Length.Refused BadType 0) buffer
   unfolding replaceCall
   r-type h = left-alone BadType 0 (rw (no-type ty (sym said ∙ not-true b h)))
 
   module _ (yes : not b ≡ false) where
-    pub r-kind : (getD ty 0 0 ≡ 5 → ⊥) → ReplaceLeft (replaceCall ty buffer used k words pool) (Length.Refused NoField 0) buffer
+    pub r-kind : (getD ty 0 0 ≡ 5 → ⊥) → Leaves (replaceCall ty buffer used k words pool) (Length.Refused NoField 0) buffer
     unfolding replaceCall
     r-kind q = let t = another ty said yes q in left-alone NoField 0 (rw (t .1) (ap (written buffer) (no-record (t .0) (t .2) .fields _)))
 
@@ -212,12 +213,12 @@ module _ (ty buffer : List ℕ) (used k : ℕ) (words pool : List ℕ) {b : Bool
       its : RecordType ty
       its = record-type ty said yes q
 
-      pub r-over : getD ty 1 0 ≤ k → ReplaceLeft (replaceCall ty buffer used k words pool) (Length.Refused NoField 0) buffer
+      pub r-over : getD ty 1 0 ≤ k → Leaves (replaceCall ty buffer used k words pool) (Length.Refused NoField 0) buffer
       unfolding replaceCall
       r-over h = left-alone NoField 0 (rw (its .typed, ltb-no k (fieldCount (its .ts)) (omega (arith, its .count))))
 
       module _ (h : k < getD ty 1 0) where
-        pub r-used : length buffer < used → used < 2 ^ 64 → ReplaceLeft (replaceCall ty buffer used k words pool) (Length.Refused NoRoom used) buffer
+        pub r-used : length buffer < used → used < 2 ^ 64 → Leaves (replaceCall ty buffer used k words pool) (Length.Refused NoRoom used) buffer
         unfolding replaceCall
         r-used l s =
             left-alone NoRoom used
@@ -231,12 +232,12 @@ module _ (ty buffer : List ℕ) (used k : ℕ) (words pool : List ℕ) {b : Bool
           finds-as : (o : Field) → w ≡ o → FindSays ty (its .ts) (take used buffer) k o Old
           finds-as o y = rw y at (s .finds (its .ts) (length ty) (its .here) (its .count) (its .deep) ab)
 
-          pub r-bad : {c d : ℕ} → w ≡ field.Refused c d → ReplaceLeft (replaceCall ty buffer used k words pool) (Length.Refused c d) buffer
+          pub r-bad : {c d : ℕ} → w ≡ field.Refused c d → Leaves (replaceCall ty buffer used k words pool) (Length.Refused c d) buffer
           unfolding replaceCall
           r-bad {c} {d} y = go Old refl (finds-as (field.Refused c d) y)
             where
               go : (m : Decoded Val) → Old ≡ m → FindSays ty (its .ts) (take used buffer) k (field.Refused c d) m
-                  → ReplaceLeft (replaceCall ty buffer used k words pool) (Length.Refused c d) buffer
+                  → Leaves (replaceCall ty buffer used k words pool) (Length.Refused c d) buffer
               go (Decoded.got v left j) e q = absurd (let w = q .3 in let z : _≡_ {A = ℕ} 0 1 = cc in omega arith)
               go (Decoded.bad c′ d′ j) e q =
                   let ec : c′ ≡ c = cc in
@@ -244,7 +245,7 @@ module _ (ty buffer : List ℕ) (used k : ℕ) (words pool : List ℕ) {b : Bool
                   left-alone c d (rw (its .typed, ltb-yes k (fieldCount (its .ts)) (omega (arith, its .count)), leb-yes used (length buffer) l, e, ec, ed))
 
           pub r-good : {at start end : ℕ} → w ≡ field.At at start end → {a : Length} {buffer′ : List ℕ} → ValueStands ty at buffer used start end words pool a buffer′
-              → ReplaceLeft (replaceCall ty buffer used k words pool) a buffer′
+              → Leaves (replaceCall ty buffer used k words pool) a buffer′
           unfolding replaceCall fields-at its
           r-good {at} {start} {end} y vst =
               let v = found (fields-at ty said yes q) ab s y in

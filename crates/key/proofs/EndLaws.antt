@@ -10,11 +10,10 @@ use lib.Seq.{slice, length-take-le}
 use Rattle.format.specs.Answer.{Answer, ok, refused, noRoom, shown, NoRoom}
 use Rattle.format.specs.Bounds.{aboveField}
 use Rattle.format.specs.Calls.{over, Bounded, bounded, aboveFieldCall}
-use Rattle.format.specs.Lengths.{lengthIn}
+use Rattle.format.specs.Lengths.{lengthIn, Leaves}
 use Rattle.format.specs.Fields as fields
 use Rattle.format.proofs.Tests.{ltb-yes, ltb-no, Test, holds, fails, leb-test}
 use Rattle.format.specs.declared.Length.{Length}
-use Rattle.ends.specs.Ends.{Leaves}
 use Rattle.key.specs.declared.bounding.Bounded.the-variants as bounding
 use Rattle.key.specs.Keys.{BoundsLeft}
 

@@ -4,14 +4,13 @@ use mathlib.Core.List.{List, [], _∷_}
 use Prim.Native.Nat.{ℕ}
 use Rattle.format.specs.Answer.{Answer}
 use Rattle.format.specs.Calls.{replaceCall}
-use Rattle.format.specs.Lengths.{lengthIn}
+use Rattle.format.specs.Lengths.{lengthIn, Leaves}
 use Rattle.format.specs.Book.{Call, Seen, usedAfter, callOn, runCalls}
 use Rattle.format.specs.declared.Length.{Length}
 use Rattle.format.proofs.Demand3.{begins, as-book}
-use Rattle.key.specs.Keys.{ReplaceLeft}
 use Rattle.key.specs.Lists.{seenBy, Ran, ended, next, AsTheBook}
 
-one : (ty buffer : List ℕ) (used : ℕ) (c : Call) (r : Length) (buffer′ : List ℕ) → ReplaceLeft (replaceCall ty buffer used (c .field) (c .words) (c .pool)) r buffer′
+one : (ty buffer : List ℕ) (used : ℕ) (c : Call) (r : Length) (buffer′ : List ℕ) → Leaves (replaceCall ty buffer used (c .field) (c .words) (c .pool)) r buffer′
     → seenBy used r buffer′ ≡ callOn ty buffer used c
 one ty buffer used c r buffer′ h =
     let a = replaceCall ty buffer used (c .field) (c .words) (c .pool) .answer in

@@ -13,6 +13,7 @@ use Rattle.format.specs.TypeSheet.{isSome, maxGroups, nesting}
 use Rattle.format.specs.ValueSheet.{valueOf, maxValueWords, Admitted}
 use Rattle.format.specs.Encode.{valBytes, encode, fits, fine, maxKeyBytes}
 use Rattle.format.specs.Calls.{Called, written, withValue}
+use Rattle.format.specs.Lengths.{Leaves}
 use Rattle.format.specs.declared.Length.{Length}
 use Rattle.format.proofs.Tests.{leb-yes, leb-no, ltb-yes}
 use Rattle.format.proofs.TypePlaces.{TypeIn}
@@ -22,7 +23,7 @@ use Rattle.read.specs.Walk.{TypeAt}
 use Rattle.fit.specs.declared.Fitted.{Fitted}
 use Rattle.fit.specs.declared.Fitted.the-variants.{Fits, Refused}
 use Rattle.fit.specs.Fit.{Standing, FitValue, Brief, Says}
-use Rattle.key.specs.Keys.{ReplaceLeft, ValueStands, Splices, with, put}
+use Rattle.key.specs.Keys.{ValueStands, Splices, with, put}
 use Rattle.key.proofs.SpliceLaws.{whole-long}
 
 no-value : (words pool : List ℕ) → isSome (valueOf words pool) ≡ false → valueOf words pool ≡ none
@@ -85,10 +86,10 @@ module _ (ty : List ℕ) (at : ℕ) (buffer : List ℕ) (used start end : ℕ) (
       abbrev Call : Ty → Called ℕ
       Call t = written buffer (put t (take used buffer) start end the-value)
 
-      by-call : (a : Length) (buffer′ : List ℕ) → ((t : Ty) (e : ℕ) → TypeIn ty at t e → nesting t ≤ maxGroups → ReplaceLeft (Call t) a buffer′)
+      by-call : (a : Length) (buffer′ : List ℕ) → ((t : Ty) (e : ℕ) → TypeIn ty at t e → nesting t ≤ maxGroups → Leaves (Call t) a buffer′)
           → ValueStands ty at buffer used start end words pool a buffer′
       by-call a buffer′ g = record {
-        stands = λ t e i d. subst (λ (o : Option Val). ReplaceLeft (written buffer (withValue o (λ u. put t (take used buffer) start end u))) a buffer′) (sym (it-is words pool said yes)) (g t e i d);
+        stands = λ t e i d. subst (λ (o : Option Val). Leaves (written buffer (withValue o (λ u. put t (take used buffer) start end u))) a buffer′) (sym (it-is words pool said yes)) (g t e i d);
       }
 
       pub v-refused : {n d : ℕ} → r ≡ Refused n d → ValueStands ty at buffer used start end words pool (Length.Refused n d) buffer

@@ -4,17 +4,17 @@ use mathlib.Core.List.{List, _++_}
 use Prim.Native.Nat.{ℕ, _+_, _-_, _≤_}
 use lib.Dec.{leb}
 use lib.ListN.{length, take, drop}
+use Rattle.format.specs.Lengths.{Leaves}
 use Rattle.format.specs.Answer.{if, Answer, ok, refused, andThen, KeyTooLong}
 use Rattle.format.specs.Tree.{Ty, Val}
 use Rattle.format.specs.TypeSheet.{maxGroups, nesting}
 use Rattle.format.specs.ValueSheet.{valueOf, Proper}
 use Rattle.format.specs.Encode.{valBytes, encode, fits, fine, maxKeyBytes}
-use Rattle.format.specs.Calls.{Called, over, written, withValue}
+use Rattle.format.specs.Calls.{over, written, withValue}
 use Rattle.format.specs.Calls as calls
 use Rattle.format.specs.declared.Length.{Length}
 use Rattle.format.proofs.TypePlaces.{TypeIn}
 use Rattle.format.proofs.ValuePlaces.{ValueIn}
-use Rattle.ends.specs.Ends.{Leaves}
 use Rattle.key.specs.declared.bounding.Bounded.{Bounded}
 use Rattle.key.specs.declared.bounding.Bounded.the-variants as bounding
 
@@ -22,14 +22,11 @@ abbrev pub boundedOf : Bounded → Answer calls.Ends
 boundedOf (bounding.Done l u) = ok (record { lower = l; upper = u })
 boundedOf (bounding.Refused n d) = refused n d
 
--- the answer and both buffers, or the one, are those of a definition's call
+-- the answer and both buffers are those of a definition's call
 pub record BoundsLeft (c : calls.Bounded) (r : Bounded) (lower′ upper′ : List ℕ) : Type 0 where
   pub answer : boundedOf r ≡ c .answer
   pub low : lower′ ≡ c .lower
   pub high : upper′ ≡ c .upper
-
-abbrev pub ReplaceLeft : Called ℕ → Length → List ℕ → Type 0
-ReplaceLeft = Leaves
 
 -- a part of the used bytes, with room for n bytes in its place
 pub record Puts (buffer : List ℕ) (used start end n : ℕ) : Type 0 where
@@ -55,4 +52,4 @@ put t key start end u =
 -- what replacement answers and leaves, of any type that stands at the place
 pub record ValueStands (ty : List ℕ) (at : ℕ) (buffer : List ℕ) (used start end : ℕ) (words pool : List ℕ) (r : Length) (buffer′ : List ℕ) : Type 0 where
   pub stands : (t : Ty) (e : ℕ) → TypeIn ty at t e → nesting t ≤ maxGroups
-      → ReplaceLeft (written buffer (withValue (valueOf words pool) (λ u. put t (take used buffer) start end u))) r buffer′
+      → Leaves (written buffer (withValue (valueOf words pool) (λ u. put t (take used buffer) start end u))) r buffer′

@@ -1,6 +1,5 @@
 // The bounds call: the two ends of the keys with the same first k fields.
 use format::Length;
-ghost use mathlib.Core.List.{List};
 ghost use Prim.Native.Nat.{_≤_};
 ghost use lib.ListN.{length, take};
 ghost use Rattle.format.specs.Answer.{ok};

@@ -5,8 +5,9 @@ use format::Length;
 ghost use Prim.Native.Nat.{_≤_};
 ghost use lib.ListN.{length};
 ghost use Rattle.format.specs.Calls.{replaceCall};
+ghost use Rattle.format.specs.Lengths.{Leaves};
 ghost use Rattle.read.specs.Walk.{TypeAt};
-ghost use Rattle.key.specs.Keys.{ReplaceLeft, Puts, Splices, ValueStands};
+ghost use Rattle.key.specs.Keys.{Puts, Splices, ValueStands};
 
 // Moves the bytes behind a part and writes the value of n bytes in its place.
 fn splice(
@@ -72,7 +73,7 @@ pub fn replace(
     words: &[u64],
     pool: &[u8],
 ) -> Length
-    ensures { λ r. ⌜ ReplaceLeft (replaceCall (now (ty .entry)) (now (buffer .entry)) used field (now (words .entry)) (now (pool .entry))) r (now (buffer .exit)) ⌝ }
+    ensures { λ r. ⌜ Leaves (replaceCall (now (ty .entry)) (now (buffer .entry)) used field (now (words .entry)) (now (pool .entry))) r (now (buffer .exit)) ⌝ }
 {
     if !sheet::admit_type(ty) {
         return Length::Refused(format::BAD_TYPE, 0);

@@ -1,5 +1,4 @@
 // Text: lines end with a line feed, words are parted by tabs.
-ghost use mathlib.Core.Path.{_≡_};
 ghost use Prim.Native.Nat.{_≤_};
 ghost use lib.ListN.{length};
 ghost use Rattle.keylines.specs.Answers.{Found};

@@ -17,12 +17,6 @@ pub enum Words {
     Bad(usize),
 }
 
-fn wide(x: u8) -> u64
-    ensures { λ r. ⌜ r ≡ x ⌝ }
-{
-    x as u64
-}
-
 // A type word is 1 to 10 digits and below 2^32.
 fn type_word(text: &[u8]) -> Word
     ensures { λ r. ⌜ wordIs r ≡ wordOf (now (text .entry)) ⌝ }
@@ -43,7 +37,7 @@ fn type_word(text: &[u8]) -> Word
         if b'9' < b {
             return Word::Bad;
         }
-        n = n * 10 + wide(b - b'0');
+        n = n * 10 + format::wide(b - b'0');
         if 0xffff_ffff < n {
             return Word::Bad;
         }

@@ -12,7 +12,7 @@ use Rattle.format.proofs.KindLaws.{built, kindOf, is-made}
 use Rattle.format.proofs.SheetPlaces.{Span, taken}
 use Rattle.format.proofs.ValuePlaces.{ValueIn, ValuesIn, wordOf, kind-is, word-is, record-in, union-in, field-in}
 use Rattle.order.specs.declared.Walk.{Walk}
-use Rattle.order.specs.Compare.{code, rankOf, standing, Within, Behind, Says, One, Row}
+use Rattle.order.specs.Compare.{code, rankOf, standing, Within, Says, One, Row}
 
 -- ---- orders and ranks
 

@@ -1,17 +1,16 @@
 -- What the call answers, by the verdicts on both sheets and by the walk's answer.
 use mathlib.Core.Path.{_≡_, refl, sym, ap, _∙_}
 use mathlib.Core.List.{List}
-use mathlib.Core.Bool.{Bool, true, false}
+use mathlib.Core.Bool.{true, false}
 use mathlib.Core.Option.{Option, some, none}
 use Prim.Native.Nat.{ℕ, Ordering, Ordering·lt, Ordering·eq, Ordering·gt}
 use native.Mathlib.Omega.{arith}
 use lib.ListN.{length}
-use Rattle.format.specs.Answer.{Answer, ok, refused}
-use Rattle.format.specs.Tree.{Val}
+use Rattle.format.specs.Answer.{ok, refused}
 use Rattle.format.specs.TypeSheet.{isSome}
 use Rattle.format.specs.ValueSheet.{valueOf}
 use Rattle.format.specs.Order.{cmpVal}
-use Rattle.format.specs.Calls.{compareCall, withValue}
+use Rattle.format.specs.Calls.{compareCall}
 use Rattle.format.proofs.ValueLaws.{its-tree, admitted}
 use Rattle.format.proofs.ValuePlaces.{top}
 use Rattle.order.specs.declared.Walk.{Walk}

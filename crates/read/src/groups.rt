@@ -2,32 +2,9 @@
 use crate::Walked;
 use crate::answers::bad;
 use format::Length;
-ghost use mathlib.Core.Path.{_≡_};
-ghost use mathlib.Core.Bool.{true};
-ghost use Prim.Native.Nat.{_<_, _≤_};
+ghost use Prim.Native.Nat.{_≤_};
 ghost use lib.ListN.{length, drop};
-ghost use Rattle.sheet.specs.Places.{SkipsAlts};
 ghost use Rattle.read.specs.Walk.{InKey, ClosesUnion, Begins, Finishes};
-
-// Is the place behind the first of some field types asked for? Where a field follows, or where the place behind the last one is.
-pub fn asks(left: u32, asked: bool) -> bool
-    ensures { λ r. ⌜ (1 < left → r ≡ true) × (asked ≡ true → r ≡ true) ⌝ }
-{
-    if 1 < left {
-        return true;
-    }
-    asked
-}
-
-// The place behind the alternatives left of a union, where it is asked for: they are not passed in vain.
-fn union_end(ty: &[u32], at: usize, left: u32, asked: bool) -> usize
-    ensures { λ r. ⌜ (asked ≡ true → SkipsAlts (now (ty .entry)) at left r) ⌝ }
-{
-    if asked {
-        return sheet::skip_alternatives(ty, at, left);
-    }
-    at
-}
 
 // Closes a union whose payload was read.
 pub fn close_union(ty: &[u32], bytes: &[u8], r: Walked, left: u32, asked: bool) -> Walked
@@ -45,7 +22,7 @@ pub fn close_union(ty: &[u32], bytes: &[u8], r: Walked, left: u32, asked: bool) 
         } => match scalar::groups::close(&bytes[next..]) {
             Length::Refused(no, detail) => bad(no, detail, begun),
             Length::Done(used) => Walked::Good {
-                at: union_end(ty, at, left, asked),
+                at: sheet::union_end(ty, at, left, asked),
                 next: next + used,
                 words,
                 pool,

@@ -2,7 +2,6 @@
 use crate::Walked;
 use crate::answers::bad;
 use crate::answers::more;
-use crate::groups::asks;
 use crate::groups::close_union;
 use crate::groups::field_refusal;
 use crate::groups::fields_end;
@@ -70,7 +69,7 @@ pub fn walk_fields(
         if refusal != 0 {
             return bad(refusal, 0, b);
         }
-        match walk_value(ty, a, bytes, j, depth, asks(left, asked)) {
+        match walk_value(ty, a, bytes, j, depth, sheet::asks(left, asked)) {
             Walked::Bad { no, detail, begun } => {
                 return bad(no, detail, b + begun);
             }

@@ -8,14 +8,14 @@ use lib.Dec.{ltb}
 use lib.ListN.{length, set}
 use borrow.Author.Tests.{lt-ltb, le-ltb, ltb-false}
 use Rattle.format.specs.Answer.{ok, refused, shown}
-use Rattle.format.specs.Lengths.{lengthIn}
+use Rattle.format.specs.Lengths.{lengthIn, Leaves}
 use Rattle.format.specs.declared.Length.{Length}
 use Rattle.format.specs.declared.Length.the-variants.{Done, Refused}
 use Rattle.format.specs.Scalar.{be, width, magnitude, uintBytes, negBytes, escaped}
 use Rattle.format.specs.Fields.{put, putAt, putI64Call, putU64Call, putStrCall, putFactIdCall}
 use Rattle.format.specs.Utf8.{utf8}
 use Rattle.blocks.proofs.Put.{set-put-cons}
-use Rattle.scalar.specs.Answers.{Puts, roomFor}
+use Rattle.scalar.specs.Answers.{roomFor}
 use Rattle.scalar.proofs.Cases.{by-test}
 use Rattle.scalar.proofs.Widths.{length-be, int-pos, int-neg}
 
@@ -44,13 +44,13 @@ module _ (len at n : ℕ) where
       no-room : {A : Type 0} {k d : ℕ} → ok r ≡ refused k d → A
       no-room q = let z : _≡_ {A = ℕ} 0 1 = cc in absurd (omega arith)
 
-put-some : (d : List ℕ) (at : ℕ) (s : List ℕ) → at + length s ≤ length d → Puts (putAt d at s) (Done (at + length s)) (put d at s)
+put-some : (d : List ℕ) (at : ℕ) (s : List ℕ) → at + length s ≤ length d → Leaves (putAt d at s) (Done (at + length s)) (put d at s)
 put-some d at s h =
     let a : ltb (length d) at ≡ false = le-ltb (length d) at (omega arith) in
     let b : ltb (length d) (at + length s) ≡ false = le-ltb (length d) (at + length s) h in
     rw (a, b) (record { answer = refl; left = refl })
 
-put-refused : (d : List ℕ) (at : ℕ) (s : List ℕ) {n k : ℕ} → refused n k ≡ roomFor (length d) at (length s) → Puts (putAt d at s) (Refused n k) d
+put-refused : (d : List ℕ) (at : ℕ) (s : List ℕ) {n k : ℕ} → refused n k ≡ roomFor (length d) at (length s) → Leaves (putAt d at s) (Refused n k) d
 put-refused d at s p =
     by-test (ltb (length d) at) (λ t. rw t (record { answer = rw t at p; left = refl }))
     (λ t. by-test (ltb (length d) (at + length s)) (λ u. rw (t, u) (record { answer = rw (t, u) at p; left = refl })) (λ u. some (rw (t, u) at p)))
@@ -63,10 +63,10 @@ module _ (d : List ℕ) (at n : ℕ) (s : List ℕ) (e : n ≡ length s) (r : Le
   pub put-room : {k : ℕ} → r ≡ Done k → at + length s ≤ length d
   put-room q = room-ok (length d) at (length s) (rw (q, e) at p)
 
-  pub put-done : {k : ℕ} → r ≡ Done k → {i : ℕ} {d′ : List ℕ} → i ≡ at + length s → d′ ≡ put d at s → Puts (putAt d at s) (Done i) d′
+  pub put-done : {k : ℕ} → r ≡ Done k → {i : ℕ} {d′ : List ℕ} → i ≡ at + length s → d′ ≡ put d at s → Leaves (putAt d at s) (Done i) d′
   put-done q u v = rw (u, v) (put-some d at s (put-room q))
 
-  pub put-none : {m k : ℕ} → r ≡ Refused m k → Puts (putAt d at s) (Refused m k) d
+  pub put-none : {m k : ℕ} → r ≡ Refused m k → Leaves (putAt d at s) (Refused m k) d
   put-none q = put-refused d at s (rw (q, e) at p)
 
 -- a mark and k bytes
@@ -77,10 +77,10 @@ module _ (d : List ℕ) (at mark k n : ℕ) (r : Length) (p : lengthIn r ≡ roo
   pub marked-room : (j : ℕ) → r ≡ Done j → at + (k + 1) ≤ length d
   marked-room j q = omega (arith, marked-long mark k n, put-room d at (1 + k) (mark ∷ be k n) (marked-long mark k n) r p q)
 
-  pub marked-done : (j : ℕ) → r ≡ Done j → {i : ℕ} {d′ : List ℕ} → (i ≡ at + (k + 1)) × (d′ ≡ put d at (mark ∷ be k n)) → Puts (putAt d at (mark ∷ be k n)) (Done i) d′
+  pub marked-done : (j : ℕ) → r ≡ Done j → {i : ℕ} {d′ : List ℕ} → (i ≡ at + (k + 1)) × (d′ ≡ put d at (mark ∷ be k n)) → Leaves (putAt d at (mark ∷ be k n)) (Done i) d′
   marked-done j q w = put-done d at (1 + k) (mark ∷ be k n) (marked-long mark k n) r p q (omega (arith, w .0, marked-long mark k n)) (w .1)
 
-  pub marked-none : (m j : ℕ) → r ≡ Refused m j → Puts (putAt d at (mark ∷ be k n)) (Refused m j) d
+  pub marked-none : (m j : ℕ) → r ≡ Refused m j → Leaves (putAt d at (mark ∷ be k n)) (Refused m j) d
   marked-none m j q = put-none d at (1 + k) (mark ∷ be k n) (marked-long mark k n) r p q
 
 -- a mark and a run
@@ -92,43 +92,43 @@ module _ (d : List ℕ) (at mark : ℕ) (payload : List ℕ) (n : ℕ) (e : n �
   run-room j q = omega (arith, put-room d at (1 + n) (mark ∷ escaped payload) run-long r p q)
 
   pub run-done : (j : ℕ) → r ≡ Done j → {i : ℕ} {d′ : List ℕ} → (i ≡ at + 1 + length (escaped payload)) × (d′ ≡ put (set d at mark) (at + 1) (escaped payload))
-      → Puts (putAt d at (mark ∷ escaped payload)) (Done i) d′
+      → Leaves (putAt d at (mark ∷ escaped payload)) (Done i) d′
   run-done j q w =
       let s : List ℕ = mark ∷ escaped payload in
       let h = run-room j q in
       put-done d at (1 + n) s run-long r p q (omega (arith, w .0)) (w .1 ∙ set-put-cons d at mark (escaped payload) (omega arith))
 
-  pub run-none : (m j : ℕ) → r ≡ Refused m j → Puts (putAt d at (mark ∷ escaped payload)) (Refused m j) d
+  pub run-none : (m j : ℕ) → r ≡ Refused m j → Leaves (putAt d at (mark ∷ escaped payload)) (Refused m j) d
   run-none m j q = put-none d at (1 + n) (mark ∷ escaped payload) run-long r p q
 
 -- ---- integers
 
 -- those of a word by its sign
-pub put-pos : (d : List ℕ) (at w : ℕ) {a : Length} {d′ : List ℕ} → w < 2 ^ 63 → Puts (putU64Call d at w) a d′
-    → Puts (putI64Call d at w) a d′
+pub put-pos : (d : List ℕ) (at w : ℕ) {a : Length} {d′ : List ℕ} → w < 2 ^ 63 → Leaves (putU64Call d at w) a d′
+    → Leaves (putI64Call d at w) a d′
 unfolding putU64Call putI64Call
 put-pos d at w h p = rw (int-pos h) p
 
 pub put-neg : (d : List ℕ) (at w m k : ℕ) {a : Length} {d′ : List ℕ} → 2 ^ 63 ≤ w → m ≡ magnitude w → k ≡ width m
-    → Puts (putAt d at ((0x48 - k) ∷ be k (2 ^ 64 - 1 - m))) a d′ → Puts (putI64Call d at w) a d′
+    → Leaves (putAt d at ((0x48 - k) ∷ be k (2 ^ 64 - 1 - m))) a d′ → Leaves (putI64Call d at w) a d′
 unfolding putI64Call negBytes
 put-neg d at w m k h e f p = rw (int-neg h, ← e, ← f) p
 
-pub put-uint : (d : List ℕ) (at n k : ℕ) {a : Length} {d′ : List ℕ} → k ≡ width n → Puts (putAt d at ((0x48 + k) ∷ be k n)) a d′ → Puts (putU64Call d at n) a d′
+pub put-uint : (d : List ℕ) (at n k : ℕ) {a : Length} {d′ : List ℕ} → k ≡ width n → Leaves (putAt d at ((0x48 + k) ∷ be k n)) a d′ → Leaves (putU64Call d at n) a d′
 unfolding putU64Call uintBytes
 put-uint d at n k e p = rw (← e) p
 
-pub put-ref : (d : List ℕ) (at r : ℕ) {a : Length} {d′ : List ℕ} → Puts (putAt d at (0x51 ∷ be 8 r)) a d′ → Puts (putFactIdCall d at r) a d′
+pub put-ref : (d : List ℕ) (at r : ℕ) {a : Length} {d′ : List ℕ} → Leaves (putAt d at (0x51 ∷ be 8 r)) a d′ → Leaves (putFactIdCall d at r) a d′
 unfolding putFactIdCall
 put-ref d at r p = p
 
 -- ---- text, judged before any room is asked for
 
 module _ (d : List ℕ) (at : ℕ) (s : List ℕ) (t : Bool) (e : t ≡ utf8 s) where
-  pub put-text : t ≡ true → {a : Length} {d′ : List ℕ} → Puts (putAt d at (0x21 ∷ escaped s)) a d′ → Puts (putStrCall d at s) a d′
+  pub put-text : t ≡ true → {a : Length} {d′ : List ℕ} → Leaves (putAt d at (0x21 ∷ escaped s)) a d′ → Leaves (putStrCall d at s) a d′
   unfolding putStrCall
   put-text h p = rw (sym e ∙ h) p
 
-  pub put-no-text : t ≡ false → Puts (putStrCall d at s) (Refused 4 0) d
+  pub put-no-text : t ≡ false → Leaves (putStrCall d at s) (Refused 4 0) d
   unfolding putStrCall
   put-no-text h = rw (sym e ∙ h) (record { answer = refl; left = refl })

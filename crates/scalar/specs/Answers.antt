@@ -7,9 +7,6 @@ use lib.ListN.{length, take}
 use Rattle.format.specs.Answer.{if, Answer, ok, refused, noRoom}
 use Rattle.format.specs.Scalar.{tagBytes}
 use Rattle.format.specs.Read.{getFactId}
-use Rattle.format.specs.Lengths.{lengthIn}
-use Rattle.format.specs.declared.Length.{Length}
-use Rattle.format.specs.Calls.{Called}
 use Rattle.format.specs.Fields.{Taken, takenFrom, Payload, Place, inKey, inScratch}
 use Rattle.scalar.specs.declared.ints.GotInt.{GotInt}
 use Rattle.scalar.specs.declared.ints.GotInt.the-variants.{Value, Refused as NoInt}
@@ -37,11 +34,6 @@ pub record TagIn (disc : ℕ) (bytes : List ℕ) (len : ℕ) : Type 0 where
   pub front : take len bytes ≡ tagBytes disc
   pub long : len ≡ length (tagBytes disc)
   pub within : len ≤ length bytes
-
--- a writing call's answer and the buffer afterwards are those of its definition
-pub record Puts (call : Called ℕ) (r : Length) (buffer : List ℕ) : Type 0 where
-  pub answer : lengthIn r ≡ call .answer
-  pub left : buffer ≡ call .buffer
 
 -- what writing n bytes at a place of a buffer of so many answers: a place past the buffer is NoRoom with that place
 abbrev pub roomFor : (len at n : ℕ) → Answer ℕ

@@ -2,7 +2,6 @@
 ghost use mathlib.Core.Path.{_≡_};
 ghost use Prim.Native.Nat.{_+_, _≤_};
 ghost use lib.ListN.{length, drop};
-ghost use lib.Seq.{slice};
 ghost use Rattle.format.specs.Scalar.{escaped};
 ghost use Rattle.format.specs.Utf8.{utf8};
 ghost use Rattle.format.specs.Read.{marked, getRun};
@@ -15,14 +14,6 @@ pub fn escaped_len(payload: &[u8]) -> usize
 {
     let zeros = blocks::count_zeros(payload);
     payload.len() + zeros + 1
-}
-
-// The same for the payload src[i..e].
-pub fn run_len(src: &[u8], i: usize, e: usize) -> usize
-    requires { ⌜ (i ≤ e) × (e ≤ length (now src)) ⌝ }
-    ensures { λ r. ⌜ r ≡ length (escaped (slice i e (now (src .entry)))) ⌝ }
-{
-    escaped_len(&src[i..e])
 }
 
 // Writes what is left of a payload from a place in it on as a run, and returns the place behind it.
@@ -56,14 +47,6 @@ pub fn write_escaped(buf: &mut [u8], at: usize, payload: &[u8]) -> usize
 {
     let i = blocks::copy_clear(buf, at, payload);
     write_rest(buf, at + i, payload, i)
-}
-
-// The same for the payload src[i..e].
-pub fn write_run(buf: &mut [u8], at: usize, src: &[u8], i: usize, e: usize) -> usize
-    requires { ⌜ (i ≤ e) × (e ≤ length (now src)) × (at + length (escaped (slice i e (now src))) ≤ length (now buf)) ⌝ }
-    ensures { λ r. ⌜ (r ≡ at + length (escaped (slice i e (now (src .entry))))) × (now (buf .exit) ≡ put (now (buf .entry)) at (escaped (slice i e (now (src .entry))))) ⌝ }
-{
-    write_escaped(buf, at, &src[i..e])
 }
 
 // Where a run's terminator is and how many bytes its payload has, if it ends.

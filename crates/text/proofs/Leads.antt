@@ -32,10 +32,6 @@ module _ (b : ℕ) where
   unfolding leadWidth
   lead-four l h = rw (above 0xC0 0xDF b (omega arith), above 0xE0 0xEF b (omega arith), inside 0xF0 0xF7 b l h)
 
-  pub lead-high : 0xF7 < b → leadWidth b ≡ 1
-  unfolding leadWidth
-  lead-high h = rw (above 0xC0 0xDF b (omega arith), above 0xE0 0xEF b (omega arith), above 0xF0 0xF7 b h)
-
 -- what holds of a character's width where its test holds, and of the cases behind it
 widths : (t : Bool) (w k m : ℕ) (y : Char) → (t ≡ true → w ≡ m) → (widthOf y ≡ 0) ⊎ (widthOf y ≡ m) → (widthOf (when t (char w k) y) ≡ 0) ⊎ (widthOf (when t (char w k) y) ≡ m)
 widths true w k m y f g = inr (f refl)

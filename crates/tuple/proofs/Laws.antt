@@ -3,17 +3,15 @@ use mathlib.Core.Path.{_≡_, refl, ap, _∙_, subst}
 use mathlib.Core.List.{List}
 use Prim.Native.Nat.{ℕ, _+_, _≤_}
 use lib.ListN.{length}
-use Rattle.format.specs.Answer.{Answer}
 use Rattle.format.specs.Calls as calls
-use Rattle.format.specs.Fields.{Taken, Place, Payload}
-use Rattle.format.specs.Lengths.{lengthIn}
+use Rattle.format.specs.Fields.{Payload}
+use Rattle.format.specs.Lengths.{lengthIn, Leaves}
 use Rattle.format.specs.declared.Length.{Length as Reach}
 use Rattle.decode.specs.Answers as decode
 use Rattle.decode.specs.declared.Decoded.{Decoded}
 use Rattle.decode.specs.declared.CheckedKey.{CheckedKey}
-use Rattle.scalar.specs.Answers.{gotPart, Puts, Gives}
+use Rattle.scalar.specs.Answers.{gotPart, Gives}
 use Rattle.scalar.specs.declared.payloads.GotPart.{GotPart}
-use Rattle.ends.specs.Ends.{Leaves}
 use Rattle.key.specs.Keys.{BoundsLeft, boundedOf}
 use Rattle.key.specs.declared.bounding.Bounded.{Bounded}
 use Rattle.tuple.specs.Numbers.{lengthOf, sheetOf, checkedOf, endsOf, partOf, Writes, Fills, Checks, Bounds, Hands, decodedNumbers, checkedNumbers}
@@ -22,14 +20,8 @@ use Rattle.tuple.specs.declared.answers.Sheet.{Sheet}
 use Rattle.tuple.specs.declared.answers.Ends.{Ends}
 use Rattle.tuple.specs.declared.answers.Part.{Part}
 
-pub wrote : (c : calls.Called ℕ) (w : Reach) (r : Length) (b : List ℕ) → r ≡ lengthOf (lengthIn w) → (lengthIn w ≡ c .answer) × (b ≡ c .buffer) → Writes c r b
-wrote c w r b e h = record { answer = e ∙ ap lengthOf (h .0); left = h .1 }
-
-pub left : (c : calls.Called ℕ) (w : Reach) (r : Length) (b : List ℕ) → r ≡ lengthOf (lengthIn w) → Leaves c w b → Writes c r b
-left c w r b e h = wrote c w r b e (h .answer, h .left)
-
-pub put : (c : calls.Called ℕ) (w : Reach) (r : Length) (b : List ℕ) → r ≡ lengthOf (lengthIn w) → Puts c w b → Writes c r b
-put c w r b e h = wrote c w r b e (h .answer, h .left)
+pub wrote : (c : calls.Called ℕ) (w : Reach) (r : Length) (b : List ℕ) → r ≡ lengthOf (lengthIn w) → Leaves c w b → Writes c r b
+wrote c w r b e h = record { answer = e ∙ ap lengthOf (h .answer); left = h .left }
 
 pub bounded : (c : calls.Bounded) (x : Bounded) (r : Ends) (l u : List ℕ) → r ≡ endsOf (boundedOf x) → BoundsLeft c x l u → Bounds c r l u
 bounded c x r l u e h = record { answer = e ∙ ap endsOf (h .answer); left-lower = h .low; left-upper = h .high }

@@ -1,12 +1,11 @@
 -- A list of tuple_replace calls of which only the contract is known answers as the plain book (specs/Lists): call by call it is the definition's list, which demand 3 has.
-use mathlib.Core.Path.{_≡_, refl, sym, ap, _∙_}
+use mathlib.Core.Path.{_≡_, refl, ap, _∙_}
 use mathlib.Core.List.{List, [], _∷_, map}
-use Prim.Native.Nat.{ℕ, _<_}
+use Prim.Native.Nat.{ℕ}
 use native.Mathlib.Omega.{arith}
 use Rattle.format.specs.Answer.{Answer, ok, refused}
 use Rattle.format.specs.Calls.{replaceCall}
-use Rattle.format.specs.Book.{Call, Seen, Book, usedAfter, callOn, runCalls, runBook}
-use Rattle.format.specs.Demand3.{AllHeld, Started}
+use Rattle.format.specs.Book.{Call, usedAfter, callOn, runCalls}
 use Rattle.format.proofs.Tests.{eqb-no}
 use Rattle.format.proofs.Demand3.{begins, as-book}
 use Rattle.tuple.specs.Numbers.{lengthOf, Writes, Numbered}

@@ -37,7 +37,7 @@ taken g key scratch at depth c d t r b e h k =
     record { answer = e ∙ ap (partOf at depth) (h .answer ∙ ap (λ x. g key x scratch .answer) k); left = h .left ∙ ap (λ x. g key x scratch .scratch) k }
 
 pub written : (f : cursor.Cursor → cursor.Wrote) (at depth : ℕ) (c d : cursor.Cursor) (m : Moved) (r : CursorStep) (b : List ℕ)
-    → r ≡ wroteStep at depth (steps.wroteOf m) → steps.Leaves (f c) m b → c ≡ d → StepWritten at depth (f d) r b
+    → r ≡ wroteStep at depth (steps.wroteOf m) → steps.StepLeaves (f c) m b → c ≡ d → StepWritten at depth (f d) r b
 written f at depth c d m r b e h k =
     record { answer = e ∙ ap (wroteStep at depth) (h .answer ∙ ap (λ x. f x .answer) k); left = h .left ∙ ap (λ x. f x .buffer) k }
 
@@ -55,7 +55,7 @@ abbrev pub cursorOf : (at depth : ℕ) → cursor.Cursor
 cursorOf at depth = record { at = at; depth = depth }
 
 pub tagged : (g : List ℕ → cursor.Cursor → ℕ → cursor.Wrote) (buffer : List ℕ) (disc at depth : ℕ) (c d : cursor.Cursor) (m : Moved) (r : CursorStep) (b : List ℕ)
-    → r ≡ wroteStep at depth (steps.wroteOf m) → steps.Leaves (g buffer c disc) m b → c ≡ d → StepWritten at depth (g buffer d disc) r b
+    → r ≡ wroteStep at depth (steps.wroteOf m) → steps.StepLeaves (g buffer c disc) m b → c ≡ d → StepWritten at depth (g buffer d disc) r b
 tagged g buffer disc = written (λ x. g buffer x disc)
 
 pub at-zero : (n d : ℕ) (r : Length) → r ≡ openingLength 0 0 → n ≡ 0 → r ≡ openingLength n d

@@ -67,12 +67,6 @@ pub fn cursor_at(at: usize, depth: usize) -> Cursor
     }
 }
 
-fn wide(depth: u32) -> u64
-    ensures { λ r. ⌜ r ≡ depth ⌝ }
-{
-    depth as u64
-}
-
 fn to_step(value: u64, c: Cursor) -> CursorStep
     ensures { λ r. ⌜ r ≡ stepAt value (cursorOf c) ⌝ }
 {
@@ -81,7 +75,7 @@ fn to_step(value: u64, c: Cursor) -> CursorStep
         detail: 0,
         value,
         at: c.at as u64,
-        depth: wide(c.depth),
+        depth: format::wide_word(c.depth),
     }
 }
 
@@ -107,7 +101,7 @@ fn in_key(part: usize, len: usize, c: Cursor) -> PartStep
         part: part as u64,
         len: len as u64,
         at: c.at as u64,
-        depth: wide(c.depth),
+        depth: format::wide_word(c.depth),
     }
 }
 
@@ -121,7 +115,7 @@ fn in_scratch(len: usize, c: Cursor) -> PartStep
         part: 0,
         len: len as u64,
         at: c.at as u64,
-        depth: wide(c.depth),
+        depth: format::wide_word(c.depth),
     }
 }
 

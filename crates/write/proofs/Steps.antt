@@ -13,10 +13,9 @@ use Rattle.format.proofs.ValuePlaces.{ValueIn, ValuesIn, wordOf, kind-is, word-
 use Rattle.format.proofs.KindLaws.{built}
 use Rattle.format.proofs.FitLaws.{of-value, clash, no-null, both-fit}
 use Rattle.format.proofs.PlainLaws.{plainPool, plainBytes, Plain, plain}
-use Rattle.blocks.proofs.Put.{put-none}
+use Rattle.blocks.proofs.Put.{put-none, put-then}
 use Rattle.write.specs.declared.Put.{Put}
 use Rattle.write.specs.Write.{standing, groupCount, groupBytes, Stored, Ready, Onward, Done, Row, WroteValue, WroteFields}
-use Rattle.write.proofs.Stores.{two-puts}
 use Rattle.write.proofs.Groups.{group}
 
 -- ---- a value
@@ -111,7 +110,7 @@ module _ {words pool : List ℕ} {s : Put} {depth : ℕ} {l : List ℕ} (a : Rea
                   at-word = d .at-word;
                   at-pool = d .at-pool;
                   at-byte = omega (arith, g .0, d .at-byte, z .0);
-                  wrote = two-puts l (s .at) begin (inner ++ 0 ∷ []) (omega arith) (g .0) (g .1) (two-puts l₁ i inner (0 ∷ []) (omega (arith, st .kept, g .0)) (d .at-byte) (d .wrote) (z .1));
+                  wrote = put-then l (s .at) begin (inner ++ 0 ∷ []) (omega arith) (g .0) (g .1) (put-then l₁ i inner (0 ∷ []) (omega (arith, st .kept, g .0)) (d .at-byte) (d .wrote) (z .1));
                 });
           };
         }
@@ -150,7 +149,7 @@ module _ {words pool : List ℕ} {s : Put} {n depth : ℕ} {l : List ℕ} where
             at-word = g .at-word;
             at-pool = g .at-pool;
             at-byte = omega (arith, d .at-byte, g .at-byte);
-            wrote = two-puts l (s .at) (valBytes depth v) (valsBytes depth vs) (omega arith) (d .at-byte) (d .wrote) (g .wrote);
+            wrote = put-then l (s .at) (valBytes depth v) (valsBytes depth vs) (omega arith) (d .at-byte) (d .wrote) (g .wrote);
           }
 
 -- ---- the loop: what the values that are left write, they write of all

@@ -5,12 +5,8 @@ use Prim.Native.Nat.{ℕ, _+_, _-_, _≤_, _<_}
 use native.Mathlib.Omega.{arith}
 use lib.ListN.{length, set, length-append, length-set}
 use Rattle.format.specs.Fields.{put}
-use Rattle.blocks.proofs.Put.{put-none, put-put, set-put, length-put}
+use Rattle.blocks.proofs.Put.{put-none, put-then, set-put, length-put}
 use Rattle.write.specs.Write.{Stored}
-
-pub two-puts : (l : List ℕ) (at : ℕ) (xs ys : List ℕ) {m l′ : List ℕ} {a : ℕ} → at + length xs + length ys ≤ length l → a ≡ at + length xs → m ≡ put l at xs → l′ ≡ put m a ys → l′ ≡ put l at (xs ++ ys)
-two-puts l at xs ys {a = a} h q e f =
-    f ∙ ap (λ (d : List ℕ). put d a ys) e ∙ ap (λ (i : ℕ). put (put l at xs) i ys) q ∙ put-put l at xs ys h
 
 pub stored-then : {l m l′ : List ℕ} {at a b : ℕ} {xs ys : List ℕ} → Stored l at xs a m → Stored m a ys b l′ → Stored l at (xs ++ ys) b l′
 stored-then {l} {at = at} {xs = xs} {ys = ys} s t =
@@ -21,7 +17,7 @@ stored-then {l} {at = at} {xs = xs} {ys = ys} s t =
           let n = length-append xs ys in
           let f = s .right (omega arith) in
           let g = t .right (omega (arith, f .0, s .kept)) in
-          (omega (arith, f .0, g .0), two-puts l at xs ys (omega arith) (f .0) (f .1) (g .1));
+          (omega (arith, f .0, g .0), put-then l at xs ys (omega arith) (f .0) (f .1) (g .1));
     }
 
 module _ {l : List ℕ} {at : ℕ} where

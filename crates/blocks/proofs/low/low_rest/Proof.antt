@@ -1,5 +1,5 @@
 -- At most four bytes are left: they are tested as one block that may begin before the place, whose bytes are known to be ASCII.
-use Prim.Native.Nat.{ℕ, _<_}
+use Prim.Native.Nat.{_<_}
 use native.Mathlib.Omega.{arith}
 use lib.ListN.{length, getD}
 use Rattle.blocks.proofs.Spans.{span-join}

@@ -1,7 +1,7 @@
 -- Wide blocks, then the rest: each part says that all up to its end is ASCII.
 use Prim.Native.Nat.{ℕ, _<_}
 use native.Mathlib.Omega.{arith}
-use lib.ListN.{length, getD}
+use lib.ListN.{getD}
 use Rattle.blocks.proofs.Spans.{span-join}
 use borrow.Author.Needs.{needs}
 use Rattle.blocks.proofs.low.past_ascii.Statement.{statement}

@@ -1,6 +1,5 @@
 -- Four tests in order: the first zero is the answer, and none stands before it.
 use mathlib.Core.Path.{_≡_}
-use Prim.Native.Nat.{_+_}
 use native.Mathlib.Omega.{arith}
 use lib.ListN.{getD}
 use Rattle.blocks.proofs.Spans.{span-one, span-more}

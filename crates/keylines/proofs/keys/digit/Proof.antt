@@ -1,5 +1,4 @@
 -- `digit` meets its contract: one law for each range of bytes.
-use Prim.Native.Nat.{_-_}
 use Rattle.keylines.proofs.PairLaws as laws
 use borrow.Author.Needs.{needs}
 use Rattle.keylines.proofs.keys.digit.Statement.{statement}

@@ -16,7 +16,7 @@ use Rattle.read.proofs.values.walk_value.Kinds as walk-value-kinds
 use Rattle.read.proofs.values.+walk_fields+walk_value.Lts-walk_value as walk-value-lts
 use Rattle.read.proofs.answers.bad.Reads as bad-reads
 use Rattle.read.proofs.answers.more.Reads as more-reads
-use Rattle.read.proofs.groups.asks.Reads as asks-reads
+use Rattle.sheet.proofs.asks.Reads as asks-reads
 use Rattle.read.proofs.groups.close_union.Reads as close-union-reads
 use Rattle.read.proofs.groups.field_refusal.Reads as field-refusal-reads
 use Rattle.read.proofs.groups.fields_end.Reads as fields-end-reads

@@ -15,7 +15,7 @@ same-length c = search needs
 
 returns : tie.Need-returns
 returns c =
-    laws.put _ _ _ _ (c .of-length .ensures) (c .before .before .before .put-bytes .ensures)
+    laws.wrote _ _ _ _ (c .of-length .ensures) (c .before .before .before .put-bytes .ensures)
 
 pub tuple-put-bytes-spec : {M : Type 1} → statement M
 tuple-put-bytes-spec = tie.close (tie.spec put-bytes-requires of-length-requires same-length returns)

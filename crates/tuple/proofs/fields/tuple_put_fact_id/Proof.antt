@@ -15,7 +15,7 @@ same-length c = search needs
 
 returns : tie.Need-returns
 returns c =
-    laws.put _ _ _ _ (c .of-length .ensures) (c .before .before .before .put-fact-id .ensures)
+    laws.wrote _ _ _ _ (c .of-length .ensures) (c .before .before .before .put-fact-id .ensures)
 
 pub tuple-put-fact-id-spec : {M : Type 1} → statement M
 tuple-put-fact-id-spec =

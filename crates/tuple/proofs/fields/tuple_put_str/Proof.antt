@@ -15,7 +15,7 @@ same-length c = search needs
 
 returns : tie.Need-returns
 returns c =
-    laws.put _ _ _ _ (c .of-length .ensures) (c .before .before .before .put-str .ensures)
+    laws.wrote _ _ _ _ (c .of-length .ensures) (c .before .before .before .put-str .ensures)
 
 pub tuple-put-str-spec : {M : Type 1} → statement M
 tuple-put-str-spec = tie.close (tie.spec put-str-requires of-length-requires same-length returns)

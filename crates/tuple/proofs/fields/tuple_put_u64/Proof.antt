@@ -15,7 +15,7 @@ same-length c = search needs
 
 returns : tie.Need-returns
 returns c =
-    laws.put _ _ _ _ (c .of-length .ensures) (c .before .before .before .put-u64 .ensures)
+    laws.wrote _ _ _ _ (c .of-length .ensures) (c .before .before .before .put-u64 .ensures)
 
 pub tuple-put-u64-spec : {M : Type 1} → statement M
 tuple-put-u64-spec = tie.close (tie.spec put-u64-requires of-length-requires same-length returns)

@@ -15,7 +15,7 @@ same-length c = search needs
 
 returns : tie.Need-returns
 returns c =
-    laws.left _ _ _ _ (c .of-length .ensures) (c .before .before .before .above-field .ensures)
+    laws.wrote _ _ _ _ (c .of-length .ensures) (c .before .before .before .above-field .ensures)
 
 pub tuple-above-field-spec : {M : Type 1} → statement M
 tuple-above-field-spec =

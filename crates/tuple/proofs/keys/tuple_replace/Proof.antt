@@ -15,7 +15,7 @@ same-length c = search needs
 
 returns : tie.Need-returns
 returns c =
-    laws.left _ _ _ _ (c .of-length .ensures) (c .before .before .before .replace .ensures)
+    laws.wrote _ _ _ _ (c .of-length .ensures) (c .before .before .before .replace .ensures)
 
 pub tuple-replace-spec : {M : Type 1} → statement M
 tuple-replace-spec = tie.close (tie.spec replace-requires of-length-requires same-length returns)

@@ -15,7 +15,7 @@ same-length c = search needs
 
 returns : tie.Need-returns
 returns c =
-    laws.left _ _ _ _ (c .of-length .ensures) (c .before .before .before .strinc .ensures)
+    laws.wrote _ _ _ _ (c .of-length .ensures) (c .before .before .before .strinc .ensures)
 
 pub tuple-strinc-spec : {M : Type 1} → statement M
 tuple-strinc-spec = tie.close (tie.spec strinc-requires of-length-requires same-length returns)

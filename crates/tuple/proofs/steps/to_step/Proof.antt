@@ -3,11 +3,11 @@ use borrow.Author.Needs.{needs}
 use Rattle.tuple.proofs.steps.to_step.Statement.{statement}
 use Rattle.tuple.proofs.steps.to_step.Tie as tie
 
-wide-requires : tie.Need-wide-requires
-wide-requires c κs = search needs
+wide-word-requires : tie.Need-wide-word-requires
+wide-word-requires c κs = search needs
 
 returns : tie.Need-returns
 returns c = cc
 
 pub to-step-spec : {M : Type 1} → statement M
-to-step-spec = tie.close (tie.spec wide-requires returns)
+to-step-spec = tie.close (tie.spec wide-word-requires returns)
