@@ -1,12 +1,12 @@
 -- The walk of `skip` as the invariant of its loops says it: what is left of the walk at a place, and what each turn makes of it.
-use mathlib.Core.Bool.{Bool, true, false}
+use mathlib.Core.Bool.{Bool, true, false, not}
 use mathlib.Core.Path.{_≡_, refl, sym, ap, _∙_}
 use mathlib.Core.List.{List, []}
 use Prim.Native.Nat.{ℕ, _+_, _-_, _^_, _≤_, _<_}
 use native.Mathlib.Omega.{arith}
 use lib.ListN.{length, getD, take, drop, length-drop, drop-of-length-le}
 use lib.Seq.{drop-drop}
-use borrow.Author.Tests.{eq-eqb, ne-eqb, ltb-false}
+use borrow.Author.Tests.{eq-eqb, ne-eqb, ltb-false, not-false}
 use Rattle.format.specs.Answer.{ok, refused}
 use Rattle.format.specs.Read.{Read, thenRead}
 use Rattle.format.specs.Fields.{takenFrom}
@@ -44,18 +44,28 @@ walk-past escape b start h =
 -- ---- what the tests say of the depth and of what is left
 
 module _ (d : ℕ) (s : List ℕ) {q : Bool} where
-  pub ends-deep : q ≡ Ending d s → q ≡ true → 1 ≤ d
-  ends-deep p h = omega (arith, ends-open d s (sym p ∙ h))
-
   pub opens-deep : q ≡ Opening d s → q ≡ true → d + 1 < 2 ^ 32
   opens-deep p h = omega (arith, opens-low d s (sym p ∙ h))
 
   pub left : {r : ℕ} → r ≡ unjudged s → r ≡ 0 → {o : Bool} → o ≡ Opening d s → o ≡ false → q ≡ runMark (getD s 0 0) → q ≡ false → Left d s
   left e z u f p h = record { short = sym e ∙ z; runless = sym p ∙ h; deep = λ m. ltb-false d 256 (rw (eq-eqb _ _ m) at (sym u ∙ f)) }
 
+-- a group ends at the place
+pub record EndsAt (b : List ℕ) (i d : ℕ) : Type 0 where
+  pub here : Ending d (drop i b) ≡ true
+
+pub ends-deep : {b : List ℕ} {i d : ℕ} → EndsAt b i d → 1 ≤ d
+ends-deep {b} {i} {d} e = omega (arith, ends-open d (drop i b) (e .here))
+
 -- the rest of the key, as a callee sees it
 abbrev Rest : List ℕ → ℕ → List ℕ
 Rest b i = take (length b - i) (drop i b)
+
+pub ends : {b : List ℕ} {i d : ℕ} {q : Bool} → q ≡ Ending d (Rest b i) → q ≡ true → EndsAt b i d
+ends {b} {i} p h = record { here = sym (rw (part-rest i b) at p) ∙ h }
+
+pub ends-still : {b : List ℕ} {i d : ℕ} {q : Bool} → q ≡ Ending d (Rest b i) → not q ≡ false → EndsAt b i d
+ends-still {q = q} p h = ends p (not-false q h)
 
 module _ {escape : Bool} {b : List ℕ} {start i d : ℕ} (w : Walk escape b start i d) where
   -- the walk behind a turn
@@ -123,21 +133,21 @@ module _ {escape : Bool} {b : List ℕ} {start i d : ℕ} (w : Walk escape b sta
 
   -- ---- a group ends
 
-  module _ {q : Bool} (p : q ≡ Ending d (Rest b i)) (h : q ≡ true) where
-    ends : Ending d (drop i b) ≡ true
-    ends = sym (rw (part-rest i b) at p) ∙ h
+  module _ (e : EndsAt b i d) where
+    pub ends-inside : i + 1 ≤ length b
+    ends-inside = within (turn-closes escape d (drop i b) (e .here))
 
     pub ends-room : length b < 2 ^ 64 → i + 1 < 2 ^ 64
-    ends-room h = room (turn-closes escape d (drop i b) ends) h
+    ends-room h = room (turn-closes escape d (drop i b) (e .here)) h
 
     pub ends-less : (from : ℕ) → from ≤ i → length b - (i + 1) < length b - from
-    ends-less from h = less (turn-closes escape d (drop i b) ends) from h
+    ends-less from h = less (turn-closes escape d (drop i b) (e .here)) from h
 
     pub ends-on : (d - 1 ≡ 0 → ⊥) → Walk escape b start (i + 1) (d - 1)
-    ends-on k = walk-on (turn-closes escape d (drop i b) ends) k
+    ends-on k = walk-on (turn-closes escape d (drop i b) (e .here)) k
 
     pub ends-end : d - 1 ≡ 0 → ok (i + 1) ≡ skipCall b start escape
-    ends-end k = walk-end (turn-closes escape d (drop i b) ends) k
+    ends-end k = walk-end (turn-closes escape d (drop i b) (e .here)) k
 
   -- ---- a run
 

@@ -157,10 +157,15 @@ pub fn skip(bytes: &[u8], start: usize, require_escape_null: bool) -> Length
             }
         }
         if group_ends(&bytes[i..], depth) {
-            i += 1;
-            depth -= 1;
-            if depth == 0 {
-                break 'groups i;
+            loop {
+                i += 1;
+                depth -= 1;
+                if depth == 0 {
+                    break 'groups i;
+                }
+                if !group_ends(&bytes[i..], depth) {
+                    break;
+                }
             }
         } else if record_opens(&bytes[i..], depth) {
             i += 1;
