@@ -71,6 +71,9 @@ trim-none p n t h =
     let z : n ≡ 0 = omega arith in
     record { short = t .short; left = t .rest ∙ ap (λ (m : ℕ). trimmed (take m p)) z ∙ ap (λ (m : ℕ). take m p) (sym z); last = λ l. absurd (omega arith) }
 
+pub trim-empty : (p : List ℕ) → length p ≡ 0 → Trims p 0
+trim-empty p e = trim-none p 0 (rw e at (trim-start p)) (omega arith)
+
 -- ---- the calls
 
 -- a store behind what was copied to the buffer's beginning

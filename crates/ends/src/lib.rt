@@ -4,11 +4,17 @@ ghost use Rattle.format.specs.Lengths.{Leaves};
 ghost use Rattle.format.specs.Calls.{strincCall, aboveFieldCall};
 ghost use Rattle.ends.specs.Ends.{Trims};
 
-// How many bytes a prefix has without its trailing FF.
+// How many bytes a prefix has without its trailing FF. Most have none, and are done before the loop.
 fn trimmed_len(prefix: &[u8]) -> usize
     ensures { λ r. ⌜ Trims (now (prefix .entry)) r ⌝ }
 {
     let mut n = prefix.len();
+    if n == 0 {
+        return 0;
+    }
+    if prefix[n - 1] != format::MARK_ESCAPE {
+        return n;
+    }
     while 0 < n {
         let last = n - 1;
         if prefix[last] != format::MARK_ESCAPE {
