@@ -4,15 +4,15 @@ use mathlib.Core.List.{List, [], _∷_}
 use mathlib.Core.Bool.{Bool, true, false}
 use mathlib.Core.Path.{_≡_, refl, ap, sym, _∙_, subst}
 use native.Mathlib.Omega.{arith}
-use lib.Dec.{leb, ltb}
+use lib.Dec.{leb, ltb, eqb}
 use lib.ListN.{length, take, drop, getD, drop-of-length-le, length-drop}
 use lib.Seq.{drop-drop}
-use borrow.Author.Tests.{le-leb, lt-leb, lt-ltb, le-ltb, leb-true, leb-false}
+use borrow.Author.Tests.{le-leb, lt-leb, lt-ltb, le-ltb, leb-true, leb-false, eqb-false}
 use Rattle.format.specs.Tree.{Val, Vals}
 use Rattle.format.specs.Utf8.{utf8}
 use Rattle.format.specs.ValueSheet.{Parts, got, no, map, after, only, bytes, any, oneValue, values, valueAt}
 use Rattle.format.proofs.SheetPlaces.{front, front2}
-use Rattle.sheet.specs.Places.{ValueEnds, PlainEnds, RunEnds}
+use Rattle.sheet.specs.Places.{ValueEnds, RunEnds}
 
 abbrev ReadFields : Type 0
 ReadFields = ℕ → List ℕ → List ℕ → Parts Vals
@@ -115,18 +115,6 @@ ends-map : {A : Type 0} (f : A → Val) (w b : List ℕ) (low high from r q : �
 ends-map f w b low high from r q (got a s c) h e = (e .0, e .1, omega (arith, e .2), e .3, e .4, e .5)
 ends-map f w b low high from r q no h e = e
 
--- a run of one value is that value
-one-of : (p : ReadPayload) (w b : List ℕ) (low from : ℕ) (s c : List ℕ) (r q : ℕ) → ValueEnds w b low from (values p 1 s c) r q → ValueEnds w b low from (p s c) r q
-unfolding values
-one-of p w b low from s c r q e = go (p s c) e
-  where
-    go : (x : Parts Val) → ValueEnds w b low from (after x (λ v t d. map (Vals.AddVal v) (got Vals.NoVal t d))) r q → ValueEnds w b low from x r q
-    go (got v t d) h = h
-    go no h = h
-
-pub one-end : (w b : List ℕ) (at from g r q : ℕ) → ValueEnds w b (at + 1) from (values (valueAt g) 1 (drop at w) (drop from b)) r q → ValueEnds w b (at + 1) from (valueAt g (drop at w) (drop from b)) r q
-one-end w b at from g r q e = one-of (valueAt g) w b (at + 1) from (drop at w) (drop from b) r q e
-
 module _ (w b : List ℕ) (at from g : ℕ) where
   abbrev Finds : ℕ → ℕ → Type 0
   Finds r q = ValueEnds w b (at + 1) from (valueAt g (drop at w) (drop from b)) r q
@@ -146,14 +134,13 @@ module _ (w b : List ℕ) (at from g : ℕ) where
     one-word : (k : ℕ) (r : List ℕ) → getD w at 0 ≡ k → drop (at + 1) w ≡ r → drop at w ≡ k ∷ r
     one-word k r e d = cc (front w at here)
 
-    null-ends : getD w at 0 ≡ 0 → from ≤ length b → Finds (at + 1) from
-    null-ends k h =
+    pub null : getD w at 0 ≡ 0 → from ≤ length b → Finds (at + 1) from
+    null k h =
         let o = opens (0 ∷ drop (at + 1) w) (one-word 0 (drop (at + 1) w) k refl) in
         finds (at + 1) from _ (o .2 ∙ one-null (o .0) (o .1) (drop from b) (drop (at + 1) w)) (refl, refl, omega arith, omega arith, omega arith, h)
 
-    pub short : (q : ℕ) → PlainEnds w at 0 → length w - at < 2 → Finds 0 q
-    short q p l =
-        let a = p .not-null refl here in
+    pub short : (q : ℕ) → (getD w at 0 ≡ 0 → ⊥) → length w - at < 2 → Finds 0 q
+    short q a l =
         let end : length w ≤ at + 1 = omega arith in
         let o = opens (getD w at 0 ∷ []) (one-word (getD w at 0) [] refl (drop-of-length-le w end)) in
         finds 0 q no (o .2 ∙ one-short (o .0) (o .1) (drop from b) (getD w at 0) a) refl
@@ -172,11 +159,11 @@ module _ (w b : List ℕ) (at from g : ℕ) where
         let same : drop at w ≡ k ∷ more ∷ behind = cc (front2 w at next) in
         opens (k ∷ more ∷ behind) same
 
-    integer-ends : getD w at 0 ≡ 1 → from ≤ length b → Finds (at + 2) from
-    integer-ends k h = let o = opens2 1 k in finds (at + 2) from _ (o .2 ∙ one-int (o .0) (o .1) (drop from b) more behind) (refl, refl, omega arith, omega arith, omega arith, h)
+    pub integer : getD w at 0 ≡ 1 → from ≤ length b → Finds (at + 2) from
+    integer k h = let o = opens2 1 k in finds (at + 2) from _ (o .2 ∙ one-int (o .0) (o .1) (drop from b) more behind) (refl, refl, omega arith, omega arith, omega arith, h)
 
-    reference-ends : getD w at 0 ≡ 4 → from ≤ length b → Finds (at + 2) from
-    reference-ends k h = let o = opens2 4 k in finds (at + 2) from _ (o .2 ∙ one-ref (o .0) (o .1) (drop from b) more behind) (refl, refl, omega arith, omega arith, omega arith, h)
+    pub reference : getD w at 0 ≡ 4 → from ≤ length b → Finds (at + 2) from
+    reference k h = let o = opens2 4 k in finds (at + 2) from _ (o .2 ∙ one-ref (o .0) (o .1) (drop from b) more behind) (refl, refl, omega arith, omega arith, omega arith, h)
 
     is-str : getD w at 0 ≡ 2 → valueAt g (drop at w) (drop from b) ≡ bytes Val.Str utf8 more behind (drop from b)
     is-str k = let o = opens2 2 k in o .2 ∙ one-str (o .0) (o .1) (drop from b) more behind
@@ -213,11 +200,9 @@ module _ (w b : List ℕ) (at from g : ℕ) where
       run-bad : (q : ℕ) → getD w at 0 ≡ 2 → utf8 (take more (drop from b)) ≡ false → Finds 0 q
       run-bad q k t = finds 0 q no (is-str k ∙ bytes-bad Val.Str utf8 more behind (drop from b) room t) refl
 
-  module _ (here : at < length w) (two : 2 ≤ length w - at) (plain : PlainEnds w at 0) (up : 4 ≤ getD w at 0) where
+  module _ (here : at < length w) (two : 2 ≤ length w - at) (n4 : getD w at 0 ≡ 4 → ⊥) (up : 4 ≤ getD w at 0) where
     group : 4 < getD w at 0
-    group =
-        let n4 = plain .no-number refl (omega arith) .1 in
-        omega arith
+    group = omega arith
 
     opens3 : (k n : ℕ) → getD w at 0 ≡ k → g ≡ n → valueAt g (drop at w) (drop from b) ≡ valueAt n (k ∷ more ∷ behind) (drop from b)
     opens3 k n e d =
@@ -250,43 +235,14 @@ module _ (w b : List ℕ) (at from g : ℕ) where
         pub big-tag : (q : ℕ) → 2 ^ 32 ≤ more → Finds 0 q
         big-tag q h = finds 0 q no (is-union false (le-ltb more (2 ^ 32) h)) refl
 
-        pub payload : (r q : ℕ) → more < 2 ^ 32 → ValueEnds w b (at + 2 + 1) from (values (valueAt (g - 1)) 1 behind (drop from b)) r q → Finds r q
+        pub payload : (r q : ℕ) → more < 2 ^ 32 → ValueEnds w b (at + 2 + 1) from (valueAt (g - 1) behind (drop from b)) r q → Finds r q
         payload r q h e =
             finds r q (map (Val.Union more) (valueAt (g - 1) behind (drop from b))) (is-union true (lt-ltb more (2 ^ 32) h))
-            (ends-map (Val.Union more) w b (at + 1) (at + 2 + 1) from r q (valueAt (g - 1) behind (drop from b)) (omega arith) (one-of (valueAt (g - 1)) w b (at + 2 + 1) from behind (drop from b) r q e))
+            (ends-map (Val.Union more) w b (at + 1) (at + 2 + 1) from r q (valueAt (g - 1) behind (drop from b)) (omega arith) e)
 
--- a plain value ends alike whatever the pool and the groups
-module _ (w : List ℕ) (at : ℕ) where
-  pub gone : length w ≤ at → PlainEnds w at 0
-  gone h = record { ends = λ z. absurd (z refl); not-null = λ z l. absurd (omega arith); no-number = λ z l. absurd (omega arith) }
-
-  module _ (here : at < length w) where
-    pub null : getD w at 0 ≡ 0 → PlainEnds w at (at + 1)
-    null k = record { ends = λ z b from g l. null-ends w b at from g here k l; not-null = λ z. absurd (omega arith); no-number = λ z. absurd (omega arith) }
-
-    module _ (n0 : getD w at 0 ≡ 0 → ⊥) where
-      pub cut : length w - at < 2 → PlainEnds w at 0
-      cut h = record { ends = λ z. absurd (z refl); not-null = λ z l. n0; no-number = λ z l. absurd (omega arith) }
-
-      module _ (two : 2 ≤ length w - at) where
-        pub integer : getD w at 0 ≡ 1 → PlainEnds w at (at + 2)
-        integer k = record { ends = λ z b from g l. integer-ends w b at from g here two k l; not-null = λ z. absurd (omega arith); no-number = λ z. absurd (omega arith) }
-
-        pub reference : getD w at 0 ≡ 4 → PlainEnds w at (at + 2)
-        reference k = record { ends = λ z b from g l. reference-ends w b at from g here two k l; not-null = λ z. absurd (omega arith); no-number = λ z. absurd (omega arith) }
-
-        pub other : (getD w at 0 ≡ 1 → ⊥) → (getD w at 0 ≡ 4 → ⊥) → PlainEnds w at 0
-        other n1 n4 = record { ends = λ z. absurd (z refl); not-null = λ z l. n0; no-number = λ z l. (n1, n4) }
-
-pub not-plain : (w : List ℕ) (at n : ℕ) → PlainEnds w at n → n ≡ 0 → PlainEnds w at 0
-not-plain w at n p z = subst (λ (r : ℕ). PlainEnds w at r) z p
-
--- below 4, what is not plain is a Str or Bytes
-pub is-run : (w : List ℕ) (at : ℕ) → at < length w → 2 ≤ length w - at → PlainEnds w at 0 → getD w at 0 < 4 → 1 < getD w at 0
-is-run w at here two p h =
-    let n0 = p .not-null refl here in
-    let n1 = p .no-number refl (omega arith) .0 in
-    omega arith
+-- what is no Null and no Int, as their tests say, has a kind above theirs
+pub is-run : (k : ℕ) → (k ≡ 0 → ⊥) → eqb k 1 ≡ false → 1 < k
+is-run k n0 n1 = omega (arith, eqb-false k 1 n1)
 
 -- a Str or Bytes ends alike whatever the groups
 module _ (w b : List ℕ) (at from : ℕ) (next : at + 1 < length w) (low : 1 < getD w at 0) (high : getD w at 0 < 4) where
@@ -383,6 +339,3 @@ module _ (w b : List ℕ) (at from count g left place used : ℕ) (f : Fields w 
           make = λ vs. f .make (Vals.AddVal (n .0) vs);
           all = one-field ∙ ap then (n .1) ∙ map-map (f .make) (Vals.AddVal (n .0)) (values (valueAt g) (left - 1) (drop r w) (drop q b));
         }
-
-  pub fields-plain : (n : ℕ) → 0 < left → PlainEnds w place n → (n ≡ 0 → ⊥) → Fields w b at from count g (left - 1) n used
-  fields-plain n more p z = fields-go n used more (p .ends z b used g (f .until)) z

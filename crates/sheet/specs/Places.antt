@@ -3,7 +3,7 @@ use Prim.Native.Nat.{ℕ, _+_, _≤_, _<_}
 use mathlib.Core.List.{List}
 use mathlib.Core.Option.{Option, some, none}
 use mathlib.Core.Path.{_≡_}
-use lib.ListN.{length, drop, getD}
+use lib.ListN.{length, drop}
 use Rattle.format.specs.Tree.{Ty, Alts}
 use Rattle.format.specs.Sheet.{altCount}
 use Rattle.format.specs.TypeSheet.{maxGroups, Part, got, no, nesting, altNestings}
@@ -20,12 +20,6 @@ Ends w low no r = r ≡ 0
 abbrev pub ValueEnds : {A : Type 0} → List ℕ → List ℕ → ℕ → ℕ → Parts A → ℕ → ℕ → Type 0
 ValueEnds w b low from (Parts.got a s c) r q = (s ≡ drop r w) × (c ≡ drop q b) × (low ≤ r) × (r ≤ length w) × (from ≤ q) × (q ≤ length b)
 ValueEnds w b low from Parts.no r q = r ≡ 0
-
--- r is the end of the Null, Int or reference at `at`, which has no bytes and is no group; r is 0 where another value stands, or none
-pub record PlainEnds (w : List ℕ) (at r : ℕ) : Type 0 where
-  pub ends : (r ≡ 0 → ⊥) → (b : List ℕ) (from g : ℕ) → from ≤ length b → ValueEnds w b (at + 1) from (valueAt g (drop at w) (drop from b)) r from
-  pub not-null : r ≡ 0 → at < length w → getD w at 0 ≡ 0 → ⊥
-  pub no-number : r ≡ 0 → at + 1 < length w → (getD w at 0 ≡ 1 → ⊥) × (getD w at 0 ≡ 4 → ⊥)
 
 -- r and q are the ends of the Str or Bytes at `at` and of its bytes, which is no group
 pub record RunEnds (w b : List ℕ) (at from r q : ℕ) : Type 0 where

@@ -4,35 +4,12 @@ ghost use Prim.Native.Nat.{_+_, _≤_, _<_};
 ghost use lib.ListN.{length, drop, getD};
 ghost use Rattle.format.specs.TypeSheet.{isSome};
 ghost use Rattle.format.specs.ValueSheet.{valueAt, values, valueOf};
-ghost use Rattle.sheet.specs.Places.{ValueEnds, PlainEnds, RunEnds};
+ghost use Rattle.sheet.specs.Places.{ValueEnds, RunEnds};
 
 // A place in a value sheet: in the words and in the pool.
 pub struct Place {
     pub words: usize,
     pub pool: usize,
-}
-
-// The place behind the Null, the Int or the reference at `at`; 0 for anything else.
-fn plain_end(words: &[u64], at: usize) -> usize
-    ensures { λ r. ⌜ PlainEnds (now (words .entry)) at r ⌝ }
-{
-    if at >= words.len() {
-        return 0;
-    }
-    let kind = words[at];
-    if kind == format::VALUE_NULL {
-        return at + 1;
-    }
-    if words.len() - at < 2 {
-        return 0;
-    }
-    if kind == format::VALUE_INT {
-        return at + 2;
-    }
-    if kind == format::VALUE_FACT {
-        return at + 2;
-    }
-    0
 }
 
 // The place behind the Str or the Bytes at `at`; a Str is judged.
@@ -61,18 +38,31 @@ fn run_end(words: &[u64], pool: &[u8], at: usize, from: usize) -> Place
     Place { words: 0, pool: 0 }
 }
 
-// The place behind the value at `at` that is no plain one; its words are 0 if there is none. A union's payload is one value behind the tag.
-fn other_end(words: &[u64], pool: &[u8], at: usize, from: usize, groups: usize) -> Place
-    requires { ⌜ PlainEnds (now words) at 0 × (from ≤ length (now pool)) ⌝ }
+// The place behind the value at `at`, its bytes from `from` on, with at most `groups` groups in one another; its words are 0 if there is none.
+// A union's payload is the value behind its tag.
+pub fn value_end(words: &[u64], pool: &[u8], at: usize, from: usize, groups: usize) -> Place
+    requires { ⌜ from ≤ length (now pool) ⌝ }
     ensures { λ r. ⌜ ValueEnds (now (words .entry)) (now (pool .entry)) (at + 1) from (valueAt groups (drop at (now (words .entry))) (drop from (now (pool .entry)))) (r .words) (r .pool) ⌝ }
 {
     if at >= words.len() {
         return Place { words: 0, pool: 0 };
     }
+    let kind = words[at];
+    if kind == format::VALUE_NULL {
+        return Place {
+            words: at + 1,
+            pool: from,
+        };
+    }
     if words.len() - at < 2 {
         return Place { words: 0, pool: 0 };
     }
-    let kind = words[at];
+    if kind == format::VALUE_FACT || kind == format::VALUE_INT {
+        return Place {
+            words: at + 2,
+            pool: from,
+        };
+    }
     if kind < format::VALUE_FACT {
         return run_end(words, pool, at, from);
     }
@@ -89,11 +79,11 @@ fn other_end(words: &[u64], pool: &[u8], at: usize, from: usize, groups: usize) 
     if x >= format::DISCRIMINANTS {
         return Place { words: 0, pool: 0 };
     }
-    values_end(words, pool, at + 2, from, 1, groups - 1)
+    value_end(words, pool, at + 2, from, groups - 1)
 }
 
 // The place behind `count` values from `at` on, their bytes from `from` on, each with at most `groups` groups in one another; its words are 0 if they
-// do not stand there. A plain value is passed in place.
+// do not stand there.
 fn values_end(
     words: &[u64],
     pool: &[u8],
@@ -109,35 +99,18 @@ fn values_end(
     let mut place = at;
     let mut used = from;
     while left > 0 {
-        let next = plain_end(words, place);
-        if next != 0 {
-            place = next;
-            left -= 1;
-        } else {
-            let end = other_end(words, pool, place, used, groups);
-            place = end.words;
-            used = end.pool;
-            if place == 0 {
-                return Place { words: 0, pool: 0 };
-            }
-            left -= 1;
+        let end = value_end(words, pool, place, used, groups);
+        place = end.words;
+        used = end.pool;
+        if place == 0 {
+            return Place { words: 0, pool: 0 };
         }
+        left -= 1;
     }
     Place {
         words: place,
         pool: used,
     }
-}
-
-// The place behind the value at `at`, its bytes from `from` on, with at most `groups` groups in one another; its words are 0 if there is none.
-pub fn value_end(words: &[u64], pool: &[u8], at: usize, from: usize, groups: usize) -> Place
-    requires { ⌜ from ≤ length (now pool) ⌝ }
-    ensures { λ r. ⌜ ValueEnds (now (words .entry)) (now (pool .entry)) (at + 1) from (valueAt groups (drop at (now (words .entry))) (drop from (now (pool .entry)))) (r .words) (r .pool) ⌝ }
-{
-    if at >= words.len() {
-        return Place { words: 0, pool: 0 };
-    }
-    values_end(words, pool, at, from, 1, groups)
 }
 
 // Is the sheet admitted: words and pool used up exactly, known kinds, text where it says text, at most 1,048,576 of each and 320 groups in one another?
