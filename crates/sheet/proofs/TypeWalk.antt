@@ -79,8 +79,8 @@ opened g n r = (refl, refl)
 two-words : (w : List ℕ) (at k : ℕ) → getD w at 0 ≡ k → at + 1 < length w → drop at w ≡ k ∷ getD w (at + 1) 0 ∷ drop (at + 2) w
 two-words w at k e h = cc (front2 w at h)
 
--- a group ends where its fields or its alternatives do
-ends-map : {A : Type 0} (f : A → Ty) (w : List ℕ) (low high r : ℕ) (q : Part A) → low ≤ high → Ends w high q r → Ends w low (map f q) r
+-- a group ends where its fields or its alternatives do, and a run where what follows its first does
+ends-map : {A B : Type 0} (f : A → B) (w : List ℕ) (low high r : ℕ) (q : Part A) → low ≤ high → Ends w high q r → Ends w low (map f q) r
 ends-map f w low high r (got a s) h e = (e .0, omega (arith, e .1), e .2)
 ends-map f w low high r no h e = e
 
@@ -150,128 +150,83 @@ module _ (w : List ℕ) (at g : ℕ) where
 
 -- ---- runs of types and of alternatives
 
-map-id : {A : Type 0} (q : Part A) → q ≡ map (λ a. a) q
-map-id (got a s) = refl
-map-id no = refl
-
-map-map : {A B C : Type 0} (f : B → C) (g : A → B) (p : Part A) → map f (map g p) ≡ map (λ a. f (g a)) p
-map-map f g (got a r) = refl
-map-map f g no = refl
-
--- where a place is 0 nothing was read, and where it is not something was
-nothing : {A : Type 0} (w : List ℕ) (at r : ℕ) (q : Part A) → Ends w (at + 1) q r → r ≡ 0 → q ≡ no
-nothing w at r (got a s) e z = absurd (omega (arith, e .1))
-nothing w at r no e z = refl
-
-something : {A : Type 0} (w : List ℕ) (low r : ℕ) (q : Part A) → Ends w low q r → (r ≡ 0 → ⊥) → (a : A) × (q ≡ got a (drop r w)) × (low ≤ r) × (r ≤ length w)
-something w low r (got a s) e z = (a, ap (got a) (e .0), e .1, e .2)
-something w low r no e z = absurd (z e)
-
--- a run whose next type is q: it ends there, or goes on behind it
-module _ {B : Type 0} (all : Part B) (make : B → B) (q : Part Ty) (add : Ty → B → B) (rest : List ℕ → Part B) (is : all ≡ map make (after q (λ t s. map (add t) (rest s)))) where
-  stops : q ≡ no → all ≡ no
-  stops z = is ∙ ap (λ (x : Part Ty). map make (after x (λ t s. map (add t) (rest s)))) z
-
-  goes : (t : Ty) (s : List ℕ) → q ≡ got t s → all ≡ map (λ b. make (add t b)) (rest s)
-  goes t s z = is ∙ ap (λ (x : Part Ty). map make (after x (λ t s. map (add t) (rest s)))) z ∙ map-map make (add t) (rest s)
-
--- `count` types from `at` on, of which `left` are left from `place` on: what those make of all
-pub record Fields (w : List ℕ) (at count g left place : ℕ) : Type 0 where
-  pub low : at ≤ place
+-- of a run of `count` from `at` on, `left` are left from `place` on: all end where those do
+pub record Run {A : Type 0} (read : ℕ → List ℕ → Part A) (w : List ℕ) (at count left place : ℕ) : Type 0 where
   pub high : place ≤ length w
-  pub make : Tys → Tys
-  pub all : types (typeAt g) count (drop at w) ≡ map make (types (typeAt g) left (drop place w))
+  pub ends : (r : ℕ) → Ends w place (read left (drop place w)) r → Ends w at (read count (drop at w)) r
 
-pub fields-start : (w : List ℕ) (at count g : ℕ) → at ≤ length w → Fields w at count g count at
-fields-start w at count g h = record { low = omega arith; high = h; make = λ ts. ts; all = map-id (types (typeAt g) count (drop at w)) }
+pub run-start : {A : Type 0} (read : ℕ → List ℕ → Part A) (w : List ℕ) (at count : ℕ) → at ≤ length w → Run read w at count count at
+run-start read w at count h = record { high = h; ends = λ r e. e }
 
-module _ (w : List ℕ) (at count g left place : ℕ) (f : Fields w at count g left place) where
+module _ {A : Type 0} (read : ℕ → List ℕ → Part A) (w : List ℕ) (at count left place : ℕ) (f : Run read w at count left place) where
   abbrev Fits : ℕ → Type 0
-  Fits r = Ends w at (types (typeAt g) count (drop at w)) r
+  Fits r = Ends w at (read count (drop at w)) r
 
-  pub fields-done : left ≤ 0 → Fits place
-  unfolding types
-  fields-done h =
-      let z : left ≡ 0 = omega arith in
-      let e : types (typeAt g) count (drop at w) ≡ got (f .make Tys.NoTy) (drop place w) = f .all ∙ ap (λ (n : ℕ). map (f .make) (types (typeAt g) n (drop place w))) z in
-      subst (λ (x : Part Tys). Ends w at x place) (sym e) (refl, f .low, f .high)
+  ends-as : (n r : ℕ) (x : Part A) → left ≡ n → read n (drop place w) ≡ x → Ends w place x r → Fits r
+  ends-as n r x l is h =
+      let same : x ≡ read left (drop place w) = cc (l, is) in
+      f .ends r (subst (λ (y : Part A). Ends w place y r) same h)
+
+  run-done : (none : A) → read 0 (drop place w) ≡ got none (drop place w) → left ≤ 0 → Fits place
+  run-done none is h = ends-as 0 place _ (omega arith) is (refl, omega arith, f .high)
 
   module _ (more : 0 < left) where
-    one-field : types (typeAt g) count (drop at w) ≡ map (f .make) (after (typeAt g (drop place w)) (λ t s. map (Tys.AddTy t) (types (typeAt g) (left - 1) s)))
-    unfolding types
-    one-field =
-        let s : left ≡ suc (left - 1) = omega arith in
-        f .all ∙ ap (λ (n : ℕ). map (f .make) (types (typeAt g) n (drop place w))) s
+    run-out : read (suc (left - 1)) (drop place w) ≡ no → Fits 0
+    run-out is = ends-as (suc (left - 1)) 0 no (omega arith) is refl
 
-    module _ (r : ℕ) (e : Ends w (place + 1) (typeAt g (drop place w)) r) where
-      pub fields-fail : r ≡ 0 → Fits 0
-      fields-fail z =
-          let n = stops _ (f .make) (typeAt g (drop place w)) Tys.AddTy (types (typeAt g) (left - 1)) one-field (nothing w place r (typeAt g (drop place w)) e z) in
-          subst (λ (x : Part Tys). Ends w at x 0) (sym n) refl
+    -- the next type is q, at `p`, and the run ends where the rest behind it does
+    module _ (p r : ℕ) (add : Ty → A → A) where
+      abbrev then : Part Ty → Part A
+      then q = after q (λ t s. map (add t) (read (left - 1) s))
 
-      pub fields-go : (r ≡ 0 → ⊥) → Fields w at count g (left - 1) r
-      fields-go z =
-          let n = something w (place + 1) r (typeAt g (drop place w)) e z in
+      run-fail : (q : Part Ty) → read (suc (left - 1)) (drop place w) ≡ then q → Ends w (p + 1) q r → r ≡ 0 → Fits 0
+      run-fail (got t s) is e z = absurd (omega (arith, e .1))
+      run-fail no is e z = run-out is
+
+      run-go : (q : Part Ty) → read (suc (left - 1)) (drop place w) ≡ then q → place ≤ p → Ends w (p + 1) q r → (r ≡ 0 → ⊥) → Run read w at count (left - 1) r
+      run-go (got t s) is l e z =
           record {
-            low = omega (arith, n .2, f .low);
-            high = n .3;
-            make = λ ts. f .make (Tys.AddTy (n .0) ts);
-            all = goes _ (f .make) (typeAt g (drop place w)) Tys.AddTy (types (typeAt g) (left - 1)) one-field (n .0) (drop r w) (n .1);
+            high = e .2;
+            ends = λ n h.
+                ends-as (suc (left - 1)) n _ (omega arith) is
+                (ends-map (add t) w place r n (read (left - 1) s) (omega (arith, e .1)) (subst (λ (x : List ℕ). Ends w r (read (left - 1) x) n) (sym (e .0)) h));
           }
+      run-go no is l e z = absurd (z e)
 
--- `count` alternatives from `at` on, of which `left` are left from `place` on
-pub record Others (w : List ℕ) (at count g left place : ℕ) : Type 0 where
-  pub low : at ≤ place
-  pub high : place ≤ length w
-  pub make : Alts → Alts
-  pub all : alts (typeAt g) count (drop at w) ≡ map make (alts (typeAt g) left (drop place w))
+module _ (w : List ℕ) (at count g left place : ℕ) (f : Run (types (typeAt g)) w at count left place) where
+  pub fields-done : left ≤ 0 → Ends w at (types (typeAt g) count (drop at w)) place
+  unfolding types
+  fields-done h = run-done (types (typeAt g)) w at count left place f Tys.NoTy refl h
 
-pub alts-start : (w : List ℕ) (at count g : ℕ) → at ≤ length w → Others w at count g count at
-alts-start w at count g h = record { low = omega arith; high = h; make = λ us. us; all = map-id (alts (typeAt g) count (drop at w)) }
+  module _ (more : 0 < left) (r : ℕ) (e : Ends w (place + 1) (typeAt g (drop place w)) r) where
+    pub fields-fail : r ≡ 0 → Ends w at (types (typeAt g) count (drop at w)) 0
+    unfolding types
+    fields-fail z = run-fail (types (typeAt g)) w at count left place f more place r Tys.AddTy (typeAt g (drop place w)) refl e z
 
-module _ (w : List ℕ) (at count g left place : ℕ) (f : Others w at count g left place) where
-  abbrev Stand : ℕ → Type 0
-  Stand r = Ends w at (alts (typeAt g) count (drop at w)) r
+    pub fields-go : (r ≡ 0 → ⊥) → Run (types (typeAt g)) w at count (left - 1) r
+    unfolding types
+    fields-go z = run-go (types (typeAt g)) w at count left place f more place r Tys.AddTy (typeAt g (drop place w)) refl (omega arith) e z
 
-  pub alts-done : left ≤ 0 → Stand place
+module _ (w : List ℕ) (at count g left place : ℕ) (f : Run (alts (typeAt g)) w at count left place) where
+  pub alts-done : left ≤ 0 → Ends w at (alts (typeAt g) count (drop at w)) place
   unfolding alts
-  alts-done h =
-      let z : left ≡ 0 = omega arith in
-      let e : alts (typeAt g) count (drop at w) ≡ got (f .make Alts.NoAlt) (drop place w) = f .all ∙ ap (λ (n : ℕ). map (f .make) (alts (typeAt g) n (drop place w))) z in
-      subst (λ (x : Part Alts). Ends w at x place) (sym e) (refl, f .low, f .high)
+  alts-done h = run-done (alts (typeAt g)) w at count left place f Alts.NoAlt refl h
 
   module _ (more : 0 < left) where
-    some-alts : alts (typeAt g) count (drop at w) ≡ map (f .make) (alts (typeAt g) (suc (left - 1)) (drop place w))
-    some-alts =
-        let s : left ≡ suc (left - 1) = omega arith in
-        f .all ∙ ap (λ (n : ℕ). map (f .make) (alts (typeAt g) n (drop place w))) s
-
-    module _ (here : place < length w) where
-      abbrev tag : ℕ
-      tag = getD w place 0
-
-      one-alt : alts (typeAt g) count (drop at w) ≡ map (f .make) (after (typeAt g (drop (place + 1) w)) (λ t s. map (Alts.AddAlt tag t) (alts (typeAt g) (left - 1) s)))
-      unfolding alts
-      one-alt = some-alts ∙ ap (λ (l : List ℕ). map (f .make) (alts (typeAt g) (suc (left - 1)) l)) (front w place here)
-
-      module _ (r : ℕ) (e : Ends w (place + 1 + 1) (typeAt g (drop (place + 1) w)) r) where
-        pub alts-fail : r ≡ 0 → Stand 0
-        alts-fail z =
-            let n = stops _ (f .make) (typeAt g (drop (place + 1) w)) (Alts.AddAlt tag) (alts (typeAt g) (left - 1)) one-alt (nothing w (place + 1) r (typeAt g (drop (place + 1) w)) e z) in
-            subst (λ (x : Part Alts). Ends w at x 0) (sym n) refl
-
-        pub alts-go : (r ≡ 0 → ⊥) → Others w at count g (left - 1) r
-        alts-go z =
-            let n = something w (place + 1 + 1) r (typeAt g (drop (place + 1) w)) e z in
-            record {
-              low = omega (arith, n .2, f .low);
-              high = n .3;
-              make = λ us. f .make (Alts.AddAlt tag (n .0) us);
-              all = goes _ (f .make) (typeAt g (drop (place + 1) w)) (Alts.AddAlt tag) (alts (typeAt g) (left - 1)) one-alt (n .0) (drop r w) (n .1);
-            }
-
-    pub alts-out : length w ≤ place → Stand 0
+    pub alts-out : length w ≤ place → Ends w at (alts (typeAt g) count (drop at w)) 0
     unfolding alts
-    alts-out h =
-        let n : alts (typeAt g) count (drop at w) ≡ no = some-alts ∙ ap (λ (l : List ℕ). map (f .make) (alts (typeAt g) (suc (left - 1)) l)) (drop-of-length-le w h) in
-        subst (λ (x : Part Alts). Ends w at x 0) (sym n) refl
+    alts-out h = run-out (alts (typeAt g)) w at count left place f more (ap (alts (typeAt g) (suc (left - 1))) (drop-of-length-le w h))
+
+    module _ (here : place < length w) (r : ℕ) (e : Ends w (place + 1 + 1) (typeAt g (drop (place + 1) w)) r) where
+      abbrev add : Ty → Alts → Alts
+      add = Alts.AddAlt (getD w place 0)
+
+      one-alt : alts (typeAt g) (suc (left - 1)) (drop place w) ≡ after (typeAt g (drop (place + 1) w)) (λ t s. map (add t) (alts (typeAt g) (left - 1) s))
+      unfolding alts
+      one-alt = ap (alts (typeAt g) (suc (left - 1))) (front w place here)
+
+      pub alts-fail : r ≡ 0 → Ends w at (alts (typeAt g) count (drop at w)) 0
+      alts-fail z = run-fail (alts (typeAt g)) w at count left place f more (place + 1) r add (typeAt g (drop (place + 1) w)) one-alt e z
+
+      pub alts-go : (r ≡ 0 → ⊥) → Run (alts (typeAt g)) w at count (left - 1) r
+      alts-go z = run-go (alts (typeAt g)) w at count left place f more (place + 1) r add (typeAt g (drop (place + 1) w)) one-alt (omega arith) e z

@@ -110,10 +110,10 @@ module _ (f : List ℕ → Val) (t : List ℕ → Bool) (x : ℕ) (r b : List �
   bytes-bad : x ≤ length b → t (take x b) ≡ false → bytes f t x r b ≡ no
   bytes-bad h u = rw (le-leb x (length b) h, u)
 
--- a group ends where its fields or its payload do
-ends-map : {A : Type 0} (f : A → Val) (w b : List ℕ) (low high from r q : ℕ) (x : Parts A) → low ≤ high → ValueEnds w b high from x r q → ValueEnds w b low from (map f x) r q
-ends-map f w b low high from r q (got a s c) h e = (e .0, e .1, omega (arith, e .2), e .3, e .4, e .5)
-ends-map f w b low high from r q no h e = e
+-- a group ends where its fields or its payload do, and a run where what follows its first does
+ends-map : {A B : Type 0} (f : A → B) (w b : List ℕ) (low high from used r q : ℕ) (x : Parts A) → low ≤ high → from ≤ used → ValueEnds w b high used x r q → ValueEnds w b low from (map f x) r q
+ends-map f w b low high from used r q (got a s c) h k e = (e .0, e .1, omega (arith, e .2), e .3, omega (arith, e .4), e .5)
+ends-map f w b low high from used r q no h k e = e
 
 module _ (w b : List ℕ) (at from g : ℕ) where
   abbrev Finds : ℕ → ℕ → Type 0
@@ -223,7 +223,7 @@ module _ (w b : List ℕ) (at from g : ℕ) where
           let s : g ≡ suc (g - 1) = omega arith in
           finds r q (map Val.Record (values (valueAt (g - 1)) more behind (drop from b)))
           (opens3 5 (suc (g - 1)) k s ∙ opened-record (g - 1) more behind (drop from b))
-          (ends-map Val.Record w b (at + 1) (at + 2 + more) from r q (values (valueAt (g - 1)) more behind (drop from b)) (omega arith) e)
+          (ends-map Val.Record w b (at + 1) (at + 2 + more) from from r q (values (valueAt (g - 1)) more behind (drop from b)) (omega arith) (omega arith) e)
 
       module _ (n5 : getD w at 0 ≡ 5 → ⊥) (top : getD w at 0 ≤ 6) where
         is-union : (t : Bool) → ltb more (2 ^ 32) ≡ t → valueAt g (drop at w) (drop from b) ≡ only t (map (Val.Union more) (valueAt (g - 1) behind (drop from b)))
@@ -238,7 +238,7 @@ module _ (w b : List ℕ) (at from g : ℕ) where
         pub payload : (r q : ℕ) → more < 2 ^ 32 → ValueEnds w b (at + 2 + 1) from (valueAt (g - 1) behind (drop from b)) r q → Finds r q
         payload r q h e =
             finds r q (map (Val.Union more) (valueAt (g - 1) behind (drop from b))) (is-union true (lt-ltb more (2 ^ 32) h))
-            (ends-map (Val.Union more) w b (at + 1) (at + 2 + 1) from r q (valueAt (g - 1) behind (drop from b)) (omega arith) e)
+            (ends-map (Val.Union more) w b (at + 1) (at + 2 + 1) from from r q (valueAt (g - 1) behind (drop from b)) (omega arith) (omega arith) e)
 
 -- what is no Null and no Int, as their tests say, has a kind above theirs
 pub is-run : (k : ℕ) → (k ≡ 0 → ⊥) → eqb k 1 ≡ false → 1 < k
@@ -271,71 +271,51 @@ module _ (w b : List ℕ) (at from : ℕ) (next : at + 1 < length w) (low : 1 < 
 
 -- ---- runs of values
 
-map-id : {A : Type 0} (x : Parts A) → x ≡ map (λ a. a) x
-map-id (got a s c) = refl
-map-id no = refl
+-- `count` values from `at` and `from` on end at r and q
+abbrev Fits : List ℕ → List ℕ → ℕ → ℕ → ℕ → ℕ → ℕ → ℕ → Type 0
+Fits w b g at from count r q = ValueEnds w b (at + count) from (values (valueAt g) count (drop at w) (drop from b)) r q
 
-map-map : {A B C : Type 0} (f : B → C) (g : A → B) (x : Parts A) → map f (map g x) ≡ map (λ a. f (g a)) x
-map-map f g (got a s c) = refl
-map-map f g no = refl
-
--- where a place is 0 nothing was read, and where it is not something was
-module _ (w b : List ℕ) (at from r q : ℕ) where
-  nothing : (x : Parts Val) → ValueEnds w b (at + 1) from x r q → r ≡ 0 → x ≡ no
-  nothing (got a s c) e z = absurd (omega (arith, e .2))
-  nothing no e z = refl
-
-  something : (x : Parts Val) → ValueEnds w b (at + 1) from x r q → (r ≡ 0 → ⊥) → (v : Val) × (x ≡ got v (drop r w) (drop q b)) × (at < r) × (r ≤ length w) × (from ≤ q) × (q ≤ length b)
-  something (got a s c) e z = (a, ap (λ (l : List ℕ). got a l c) (e .0) ∙ ap (got a (drop r w)) (e .1), omega (arith, e .2), e .3, e .4, e .5)
-  something no e z = absurd (z e)
-
--- `count` values from `at` and `from` on, of which `left` are left from `place` and `used` on: what those make of all
+-- of `count` values from `at` and `from` on, `left` are left from `place` and `used` on: all end where those do
 pub record Fields (w b : List ℕ) (at from count g left place used : ℕ) : Type 0 where
-  pub low : at + count ≤ place + left
   pub high : place ≤ length w
-  pub since : from ≤ used
   pub until : used ≤ length b
-  pub make : Vals → Vals
-  pub all : values (valueAt g) count (drop at w) (drop from b) ≡ map make (values (valueAt g) left (drop place w) (drop used b))
+  pub ends : (r q : ℕ) → Fits w b g place used left r q → Fits w b g at from count r q
 
 pub fields-start : (w b : List ℕ) (at from count g : ℕ) → at ≤ length w → from ≤ length b → Fields w b at from count g count at from
-fields-start w b at from count g h k =
-    record { low = omega arith; high = h; since = omega arith; until = k; make = λ vs. vs; all = map-id (values (valueAt g) count (drop at w) (drop from b)) }
+fields-start w b at from count g h k = record { high = h; until = k; ends = λ r q e. e }
 
 module _ (w b : List ℕ) (at from count g left place used : ℕ) (f : Fields w b at from count g left place used) where
-  abbrev Fits : ℕ → ℕ → Type 0
-  Fits r q = ValueEnds w b (at + count) from (values (valueAt g) count (drop at w) (drop from b)) r q
+  ends-as : (n r q : ℕ) → n ≡ left → Fits w b g place used n r q → Fits w b g at from count r q
+  ends-as n r q l h = f .ends r q (subst (λ (m : ℕ). Fits w b g place used m r q) l h)
 
-  pub fields-done : left ≤ 0 → Fits place used
+  pub fields-done : left ≤ 0 → Fits w b g at from count place used
   unfolding values
-  fields-done h =
-      let z : left ≡ 0 = omega arith in
-      let e : values (valueAt g) count (drop at w) (drop from b) ≡ got (f .make Vals.NoVal) (drop place w) (drop used b) = f .all ∙ ap (λ (n : ℕ). map (f .make) (values (valueAt g) n (drop place w) (drop used b))) z in
-      subst (λ (x : Parts Vals). ValueEnds w b (at + count) from x place used) (sym e) (refl, refl, omega (arith, f .low), f .high, f .since, f .until)
+  fields-done h = ends-as 0 place used (omega arith) (refl, refl, omega arith, f .high, omega arith, f .until)
 
-  module _ (r q : ℕ) (more : 0 < left) (e : ValueEnds w b (place + 1) used (valueAt g (drop place w) (drop used b)) r q) where
-    abbrev then : Parts Val → Parts Vals
-    then x = map (f .make) (after x (λ v s c. map (Vals.AddVal v) (values (valueAt g) (left - 1) s c)))
+  module _ (r q : ℕ) (more : 0 < left) where
+    -- the run that is left, by what its next value is
+    abbrev Then : Parts Val → ℕ → ℕ → Type 0
+    Then x = ValueEnds w b (place + suc (left - 1)) used (after x (λ v s c. map (Vals.AddVal v) (values (valueAt g) (left - 1) s c)))
 
-    one-field : values (valueAt g) count (drop at w) (drop from b) ≡ then (valueAt g (drop place w) (drop used b))
-    unfolding values
-    one-field =
-        let s : left ≡ suc (left - 1) = omega arith in
-        f .all ∙ ap (λ (n : ℕ). map (f .make) (values (valueAt g) n (drop place w) (drop used b))) s
+    missed : (u : ℕ) (x : Parts Val) → ValueEnds w b (place + 1) used x r q → r ≡ 0 → Then x 0 u
+    missed u (got v s c) e z = absurd (omega (arith, e .2))
+    missed u no e z = refl
 
-    pub fields-fail : (u : ℕ) → r ≡ 0 → Fits 0 u
-    fields-fail u z =
-        let n = one-field ∙ ap then (nothing w b place used r q (valueAt g (drop place w) (drop used b)) e z) in
-        subst (λ (x : Parts Vals). ValueEnds w b (at + count) from x 0 u) (sym n) refl
+    passed : (x : Parts Val) → ValueEnds w b (place + 1) used x r q → (r ≡ 0 → ⊥) → (r ≤ length w) × (q ≤ length b) × ((n m : ℕ) → Fits w b g r q (left - 1) n m → Then x n m)
+    passed (got v s c) e z =
+        let rest = values (valueAt g) (left - 1) in
+        let same : rest (drop r w) (drop q b) ≡ rest s c = cc (e .0, e .1) in
+        let ends : (n m : ℕ) → Fits w b g r q (left - 1) n m → ValueEnds w b (r + (left - 1)) q (rest s c) n m = λ n m h. subst (λ (x : Parts Vals). ValueEnds w b (r + (left - 1)) q x n m) same h in
+        (e .3, e .5, λ n m h. ends-map (Vals.AddVal v) w b (place + suc (left - 1)) (r + (left - 1)) used q n m (rest s c) (omega (arith, e .2)) (e .4) (ends n m h))
+    passed no e z = absurd (z e)
 
-    pub fields-go : (r ≡ 0 → ⊥) → Fields w b at from count g (left - 1) r q
-    fields-go z =
-        let n = something w b place used r q (valueAt g (drop place w) (drop used b)) e z in
-        record {
-          low = omega (arith, n .2, f .low);
-          high = n .3;
-          since = omega (arith, n .4, f .since);
-          until = n .5;
-          make = λ vs. f .make (Vals.AddVal (n .0) vs);
-          all = one-field ∙ ap then (n .1) ∙ map-map (f .make) (Vals.AddVal (n .0)) (values (valueAt g) (left - 1) (drop r w) (drop q b));
-        }
+    module _ (e : ValueEnds w b (place + 1) used (valueAt g (drop place w) (drop used b)) r q) where
+      pub fields-fail : (u : ℕ) → r ≡ 0 → Fits w b g at from count 0 u
+      unfolding values
+      fields-fail u z = ends-as (suc (left - 1)) 0 u (omega arith) (missed u (valueAt g (drop place w) (drop used b)) e z)
+
+      pub fields-go : (r ≡ 0 → ⊥) → Fields w b at from count g (left - 1) r q
+      unfolding values
+      fields-go z =
+          let n = passed (valueAt g (drop place w) (drop used b)) e z in
+          record { high = n .0; until = n .1; ends = λ m k h. ends-as (suc (left - 1)) m k (omega arith) (n .2 m k h) }

@@ -1,9 +1,10 @@
--- Each way out of a walk is a law of `TypeWalk`. The loops' invariants (`Fields`, `Others`): what the types that are left make of all; how many are left falls.
+-- Each way out of a walk is a law of `TypeWalk`. The loops' invariant (`Run`): all end where those that are left do; how many are left falls.
 -- Calls nest by groups: the measure is thrice the groups that may still open, and what tells the members of a turn apart.
 use borrow.Author.Needs.{needs}
 use native.Mathlib.Omega.{arith}
-use Rattle.sheet.proofs.TypeWalk.{none-left, zero-kind, scalar, short, unknown, reference, too-deep, record-end, union-end, Fields, fields-start, fields-done, fields-fail, fields-go, Others, alts-start, alts-done, alts-fail, alts-go, alts-out}
+use Rattle.sheet.proofs.TypeWalk.{none-left, zero-kind, scalar, short, unknown, reference, too-deep, record-end, union-end, Run, run-start, fields-done, fields-fail, fields-go, alts-done, alts-fail, alts-go, alts-out}
 use Prim.Native.Nat.{ℕ, _+_, _*_, _<_}
+use Rattle.format.specs.TypeSheet.{types, alts, typeAt}
 use borrow.Fn.Kinds.{In}
 use borrow.Fn.PlainCycle.{Measures, is, falls, and}
 use Rattle.sheet.proofs.types.alternatives_end.Reads as alternatives-end
@@ -75,13 +76,13 @@ abbrev alternatives-end-claims : ℕ → alternatives-end-lts.Claims
 alternatives-end-claims t = (type-end-below t, type-end.Post)
 
 abbrev alternatives-end-Inv-loop : alternatives-end-lts.InvT-loop
-alternatives-end-Inv-loop ty at count groups left₀ place₀ left place = Others ty at count groups left place
+alternatives-end-Inv-loop ty at count groups left₀ place₀ left place = Run (alts (typeAt groups)) ty at count left place
 
 abbrev alternatives-end-μ-loop : alternatives-end-lts.MeasureT-loop
 alternatives-end-μ-loop ty at count groups left₀ place₀ left place = left
 
 alternatives-end-loop-holds : (t : ℕ) → alternatives-end-lts.Need-loop-holds (alternatives-end-claims t) (alternatives-end-at t) alternatives-end.Post alternatives-end-Inv-loop alternatives-end-μ-loop
-alternatives-end-loop-holds t c = search alts-start
+alternatives-end-loop-holds t c = search run-start
 
 alternatives-end-returns : (t : ℕ) → alternatives-end-lts.Need-returns (alternatives-end-claims t) (alternatives-end-at t) alternatives-end.Post alternatives-end-Inv-loop alternatives-end-μ-loop
 alternatives-end-returns t c = search alts-out
@@ -111,13 +112,13 @@ abbrev fields-end-claims : ℕ → fields-end-lts.Claims
 fields-end-claims t = (type-end-below t, type-end.Post)
 
 abbrev fields-end-Inv-loop : fields-end-lts.InvT-loop
-fields-end-Inv-loop ty at count groups left₀ place₀ left place = Fields ty at count groups left place
+fields-end-Inv-loop ty at count groups left₀ place₀ left place = Run (types (typeAt groups)) ty at count left place
 
 abbrev fields-end-μ-loop : fields-end-lts.MeasureT-loop
 fields-end-μ-loop ty at count groups left₀ place₀ left place = left
 
 fields-end-loop-holds : (t : ℕ) → fields-end-lts.Need-loop-holds (fields-end-claims t) (fields-end-at t) fields-end.Post fields-end-Inv-loop fields-end-μ-loop
-fields-end-loop-holds t c = search fields-start
+fields-end-loop-holds t c = search run-start
 
 fields-end-type-end-requires : (t : ℕ) → fields-end-lts.Need-type-end-requires (fields-end-claims t) (fields-end-at t) fields-end.Post fields-end-Inv-loop fields-end-μ-loop
 fields-end-type-end-requires t c κs = (omega arith, tt)

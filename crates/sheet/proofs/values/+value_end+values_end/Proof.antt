@@ -1,4 +1,4 @@
--- Each way out of a walk is a law of `ValueWalk`. The loop's invariant (`Fields`): what the values that are left make of all; how many are left falls.
+-- Each way out of a walk is a law of `ValueWalk`. The loop's invariant (`Fields`): all end where those that are left do; how many are left falls.
 -- Calls nest by groups: the measure is twice the groups that may still open, and one for a run.
 use borrow.Author.Needs.{needs}
 use borrow.Author.Tests.{eqb-true}
