@@ -136,7 +136,8 @@ fn record_opens(rest: &[u8], depth: u32) -> bool
     }
 }
 
-// The place in the key behind the field that starts at a place, any place. Numbers, runs, a record's opening and a group's end go without a token.
+// The place in the key behind the field that starts at a place, any place. Numbers, runs, a record's opening and a group's end go without a token; numbers
+// and ends in a row have loops of their own, since most keys have them so.
 pub fn skip(bytes: &[u8], start: usize, require_escape_null: bool) -> Length
     ensures { λ r. ⌜ lengthIn r ≡ skipCall (now (bytes .entry)) start «require_escape_null» ⌝ }
 {
