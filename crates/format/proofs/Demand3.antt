@@ -217,7 +217,11 @@ as-book ty b cs k h =
     record { answers = run-same ty b cs k h; left = left-same ty b cs k h; long = a .1; fresh = fresh-call ty (bookAfter b cs) (a .0) }
 
 pub refused-as-book : (ty : List ℕ) (b : Book) (c : Call) → Kept ty b → RefusedAsBook ty b c
-refused-as-book ty b c k = record { refusal = λ n d. (λ e. there n d (entered b c) (ap (λ (s : Seen). s .answer) (sym (same ty b c k)) ∙ e), λ e. ap (λ (s : Seen). s .answer) (same ty b c k) ∙ ap replyOf e); unchanged = λ n d e. same ty b c k ∙ ap (λ (a : Answer Book). seenIn a (turnedTo b a)) e }
+refused-as-book ty b c k =
+    record {
+      refusal = λ n d. (λ e. there n d (entered b c) (ap (λ (s : Seen). s .answer) (sym (same ty b c k)) ∙ e), λ e. ap (λ (s : Seen). s .answer) (same ty b c k) ∙ ap replyOf e);
+      unchanged = λ n d e. same ty b c k ∙ ap (λ (a : Answer Book). seenIn a (turnedTo b a)) e;
+    }
   where
     there : (n d : ℕ) (a : Answer Book) → replyOf a ≡ refused n d → a ≡ refused n d
     there n d (ok next) e = absurd (no-answer (sym e))

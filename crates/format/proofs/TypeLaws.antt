@@ -90,7 +90,8 @@ union-reads g n w (got us r) h = (cc (h .0, h .2), omega (arith, h .1))
 union-reads g n w no h = tt
 
 -- a scalar, or what a group is
-one-reads : (g : ℕ) (f : ℕ → List ℕ → Part Tys) (h : ℕ → List ℕ → Part Alts) → ((n : ℕ) (r : List ℕ) → Reads g (5 ∷ n ∷ r) (map Ty.Record (f n r))) → ((n : ℕ) (r : List ℕ) → Reads g (6 ∷ n ∷ r) (map Ty.Union (h n r))) → (w : List ℕ) → Reads g w (oneType f h w)
+one-reads : (g : ℕ) (f : ℕ → List ℕ → Part Tys) (h : ℕ → List ℕ → Part Alts) → ((n : ℕ) (r : List ℕ) → Reads g (5 ∷ n ∷ r) (map Ty.Record (f n r)))
+    → ((n : ℕ) (r : List ℕ) → Reads g (6 ∷ n ∷ r) (map Ty.Union (h n r))) → (w : List ℕ) → Reads g w (oneType f h w)
 unfolding oneType tyWords nesting
 one-reads g f h rf rh [] = tt
 one-reads g f h rf rh (zero ∷ r) = tt

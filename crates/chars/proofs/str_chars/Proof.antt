@@ -104,7 +104,8 @@ module _ {M : Type 1} (𝓤 : URA M) (H : Heap 𝓤) (A : Atoms 𝓤) (W : Given
   goes-behind : ent 𝓤 (⋆ 𝓤 H A (‵ Own ∷ (‵ (flft κ q) ⊛ ‵ ftrue) ∷ [])) (sep 𝓤 (Contents 𝓤 H A mem run .pre to-behind) (sem 𝓤 H A Own))
   goes-behind =
       qed W (‵ Own ∷ (‵ (flft κ q) ⊛ ‵ ftrue) ∷ []) ∵ use1 W (‵ Own ⊛ ‵ Own) (shr-slice-copy 𝓤 H A W (named 0) κ u8 .twice s (v ∷ [])) $ split ! $
-      nothing ! $ move ! (1 ∷ 0 ∷ []) $ fjoin ! $ move ! (2 ∷ 0 ∷ []) $ use2 W (raw (Contents 𝓤 H A mem run .pre to-behind)) (qed W ((‵ (flft κ q) ⊛ ‵ ftrue) ∷ ‵ (owns (ShrSlice (named 0) κ u8 ∷ []) (s, tt) (v ∷ [], tt)) ∷ []) ∵ join ! $ frame ! $ done !) $ frame ! $ done !
+      nothing ! $ move ! (1 ∷ 0 ∷ []) $ fjoin ! $ move ! (2 ∷ 0 ∷ []) $
+      use2 W (raw (Contents 𝓤 H A mem run .pre to-behind)) (qed W ((‵ (flft κ q) ⊛ ‵ ftrue) ∷ ‵ (owns (ShrSlice (named 0) κ u8 ∷ []) (s, tt) (v ∷ [], tt)) ∷ []) ∵ join ! $ frame ! $ done !) $ frame ! $ done !
 
   abbrev Said : Opening → Type 0
   Said o = Opens (now s) (o .refusal) (o .detail) (o .finished)
@@ -130,7 +131,8 @@ module _ {M : Type 1} (𝓤 : URA M) (H : Heap 𝓤) (A : Atoms 𝓤) (W : Given
   typed-rest : (r : RefT (List ℕ)) (u : Val) → Is (ShrSlice (named 0) κ u8) r (u ∷ []) → WT (sliceVal (r .ptr) (length (r .now)))
   typed-rest r u is = shr-slice-lawful 𝓤 H A W (named 0) κ u8 .typed r (slice-vals r) (subst (Is (ShrSlice (named 0) κ u8) r) (shr-slice-tells (named 0) κ u8 r _ is) is) .0 .1
 
-  exits : (o : Opening) (r : RefT (List ℕ)) → WT (S′.lowered o) → Said o → now r ≡ drop 1 (now s) → ent 𝓤 (⋆ 𝓤 H A (‵ (ShrSlice (named 0) κ u8 .own r (slice-vals r)) ∷ (‵ (flft κ q) ⊛ ‵ ftrue) ∷ ‵ Own ∷ ‵ (S.the-row .own o (S′.lowered o ∷ [])) ∷ [])) (Post (N′.lowered (opened o r)))
+  exits : (o : Opening) (r : RefT (List ℕ)) → WT (S′.lowered o) → Said o → now r ≡ drop 1 (now s)
+      → ent 𝓤 (⋆ 𝓤 H A (‵ (ShrSlice (named 0) κ u8 .own r (slice-vals r)) ∷ (‵ (flft κ q) ⊛ ‵ ftrue) ∷ ‵ Own ∷ ‵ (S.the-row .own o (S′.lowered o ∷ [])) ∷ [])) (Post (N′.lowered (opened o r)))
   exits o r wt e f =
       qed W (‵ (ShrSlice (named 0) κ u8 .own r (slice-vals r)) ∷ (‵ (flft κ q) ⊛ ‵ ftrue) ∷ ‵ Own ∷ ‵ (S.the-row .own o (S′.lowered o ∷ [])) ∷ []) ∵
       suffices ! _ (ends-at 𝓤 H A make.ended stayed (make.clauses 𝓤 H A mem run) W (((κ, tt), (q, tt), tt, (s, tt), (v ∷ [], tt)), tt) (N′.lowered (opened o r)) (opened o r) (tt, tt) (tt, tt)) $
@@ -184,7 +186,8 @@ module _ {M : Type 1} (𝓤 : URA M) (H : Heap 𝓤) (A : Atoms 𝓤) (W : Given
 make-meets : {M : Type 1} (𝓤 : URA M) (H : Heap 𝓤) (A : Atoms 𝓤) (W : Given 𝓤 H A) (mem : Memory → SProp 𝓤) (run : Routine → Fun 𝓤) (𝓣 : Tables 𝓤 H)
     → Triple 𝓤 (𝓣 .C #chars·open-at) (OpenAt 𝓤 H A mem run) → Triple 𝓤 (𝓣 .C #chars·contents) (Contents 𝓤 H A mem run)
     → Meets 𝓤 H A make.signature (WpFn 𝓤 H (𝓣 .C) (𝓣 .Λ) code.function) (make.spec 𝓤 H A mem run)
-make-meets 𝓤 H A W mem run 𝓣 known-open known-behind = walk-meets 𝓤 H A make.ended stayed W (goes-none-slice 𝓤 H A W 1 (0 ∷ []) tt (plain (λ _. u8)) yes, tt) (make.clauses 𝓤 H A mem run) (WpFn 𝓤 H (𝓣 .C) (𝓣 .Λ) code.function) (WpFn-mono 𝓤 H (W .laws) 𝓣 code.function)
+make-meets 𝓤 H A W mem run 𝓣 known-open known-behind =
+    walk-meets 𝓤 H A make.ended stayed W (goes-none-slice 𝓤 H A W 1 (0 ∷ []) tt (plain (λ _. u8)) yes, tt) (make.clauses 𝓤 H A mem run) (WpFn 𝓤 H (𝓣 .C) (𝓣 .Λ) code.function) (WpFn-mono 𝓤 H (W .laws) 𝓣 code.function)
     (make-walks 𝓤 H A W mem run (𝓣 .C) (𝓣 .Λ) (fmOf 𝓤 H (W .laws) 𝓣) known-open known-behind)
 
 pub str-chars-spec : {M : Type 1} → stated.statement M
