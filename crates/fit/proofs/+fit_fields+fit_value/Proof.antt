@@ -7,7 +7,7 @@ use mathlib.Core.Path.{sym, _∙_}
 use borrow.Author.Needs.{needs}
 use Rattle.fit.proofs.Steps as laws
 use Rattle.fit.proofs.Rows.{Left, start-left, next-stands, all-passed, field-refused, field-passed}
-use borrow.Fn.Kinds.{In}
+use borrow.Fn.Kinds.{In, Out}
 use borrow.Fn.PlainCycle.{Measures, is, falls, and}
 use Rattle.fit.proofs.fit_fields.Reads as fit-fields
 use Rattle.fit.proofs.fit_fields.Kinds as fit-fields-kinds
@@ -56,32 +56,35 @@ fit-fields-Inv-loop ty words pool at from start n depth asked t₀ w₀ p₀ sum
 abbrev fit-fields-μ-loop : fit-fields-lts.MeasureT-loop
 fit-fields-μ-loop ty words pool at from start n depth asked t₀ w₀ p₀ sum₀ left₀ t w p sum left = left
 
-fit-fields-loop-holds : (t : ℕ) → fit-fields-lts.Need-loop-holds (fit-fields-claims t) (fit-fields-at t) fit-fields.Post fit-fields-Inv-loop fit-fields-μ-loop
+abbrev fit-fields-need : (fit-fields-lts.Claims → In 3 fit-fields-kinds.ps → Out 3 fit-fields-kinds.ps fit-fields-kinds.r → fit-fields-lts.InvT-loop → fit-fields-lts.MeasureT-loop → Type 0) → Type 0
+fit-fields-need N = (t : ℕ) → N (fit-fields-claims t) (fit-fields-at t) fit-fields.Post fit-fields-Inv-loop fit-fields-μ-loop
+
+fit-fields-loop-holds : fit-fields-need fit-fields-lts.Need-loop-holds
 fit-fields-loop-holds t c = start-left (c .before .before .before .pre .1) _ _
 
-fit-fields-asks-requires : (t : ℕ) → fit-fields-lts.Need-asks-requires (fit-fields-claims t) (fit-fields-at t) fit-fields.Post fit-fields-Inv-loop fit-fields-μ-loop
+fit-fields-asks-requires : fit-fields-need fit-fields-lts.Need-asks-requires
 fit-fields-asks-requires t c κs = search needs
 
-fit-fields-fit-value-requires : (t : ℕ) → fit-fields-lts.Need-fit-value-requires (fit-fields-claims t) (fit-fields-at t) fit-fields.Post fit-fields-Inv-loop fit-fields-μ-loop
+fit-fields-fit-value-requires : fit-fields-need fit-fields-lts.Need-fit-value-requires
 fit-fields-fit-value-requires t c κs =
     let l = c .before .before .loop in
     let s = c .before .before .before .before .before .before .pre in
     (omega (arith, s .0, l .inv .brief), next-stands (s .1) (l .inv) (c .before .loop-test .taken))
 
-fit-fields-enum-known-no : (t : ℕ) → fit-fields-lts.Need-enum-known-no (fit-fields-claims t) (fit-fields-at t) fit-fields.Post fit-fields-Inv-loop fit-fields-μ-loop
+fit-fields-enum-known-no : fit-fields-need fit-fields-lts.Need-enum-known-no
 fit-fields-enum-known-no t c = search needs
 
-fit-fields-returns : (t : ℕ) → fit-fields-lts.Need-returns (fit-fields-claims t) (fit-fields-at t) fit-fields.Post fit-fields-Inv-loop fit-fields-μ-loop
+fit-fields-returns : fit-fields-need fit-fields-lts.Need-returns
 fit-fields-returns t c =
     let c₁ = c .before .before .before in
     let c₂ = c₁ .before .before in
     let c₃ = c₂ .before in
     field-refused (c₃ .loop .inv) (c₂ .loop-test .taken) (rw (c .before .no .given .1) at (c₁ .fit-value .ensures))
 
-fit-fields-enum-known-behind : (t : ℕ) → fit-fields-lts.Need-enum-known-behind (fit-fields-claims t) (fit-fields-at t) fit-fields.Post fit-fields-Inv-loop fit-fields-μ-loop
+fit-fields-enum-known-behind : fit-fields-need fit-fields-lts.Need-enum-known-behind
 fit-fields-enum-known-behind t c = search needs
 
-fit-fields-add-sum : (t : ℕ) → fit-fields-lts.Need-add-sum (fit-fields-claims t) (fit-fields-at t) fit-fields.Post fit-fields-Inv-loop fit-fields-μ-loop
+fit-fields-add-sum : fit-fields-need fit-fields-lts.Need-add-sum
 fit-fields-add-sum t c =
     let c₁ = c .before .before .before in
     let c₂ = c₁ .before .before .before in
@@ -90,13 +93,13 @@ fit-fields-add-sum t c =
     let s = c₃ .pre .1 in
     omega (arith, c₂ .loop .inv .brief, r .brief, s .few, s .small)
 
-fit-fields-sub-left : (t : ℕ) → fit-fields-lts.Need-sub-left (fit-fields-claims t) (fit-fields-at t) fit-fields.Post fit-fields-Inv-loop fit-fields-μ-loop
+fit-fields-sub-left : fit-fields-need fit-fields-lts.Need-sub-left
 fit-fields-sub-left t c = search needs
 
-fit-fields-loop-less : (t : ℕ) → fit-fields-lts.Need-loop-less (fit-fields-claims t) (fit-fields-at t) fit-fields.Post fit-fields-Inv-loop fit-fields-μ-loop
+fit-fields-loop-less : fit-fields-need fit-fields-lts.Need-loop-less
 fit-fields-loop-less t c = search needs
 
-fit-fields-loop-again : (t : ℕ) → fit-fields-lts.Need-loop-again (fit-fields-claims t) (fit-fields-at t) fit-fields.Post fit-fields-Inv-loop fit-fields-μ-loop
+fit-fields-loop-again : fit-fields-need fit-fields-lts.Need-loop-again
 fit-fields-loop-again t c =
     let c₁ = c .before .before .before in
     let c₂ = c₁ .before in
@@ -104,7 +107,7 @@ fit-fields-loop-again t c =
     let c₄ = c₃ .before in
     field-passed (c₄ .loop .inv) (c₃ .loop-test .taken) (c₂ .asks .ensures .0) (c₂ .asks .ensures .1) (rw (c .before .behind .given .1) at (c₁ .fit-value .ensures))
 
-fit-fields-returns-2 : (t : ℕ) → fit-fields-lts.Need-returns-2 (fit-fields-claims t) (fit-fields-at t) fit-fields.Post fit-fields-Inv-loop fit-fields-μ-loop
+fit-fields-returns-2 : fit-fields-need fit-fields-lts.Need-returns-2
 fit-fields-returns-2 t c = all-passed (c .before .loop .inv) (c .loop-test .left)
 
 abbrev fit-value-claims : ℕ → fit-value-lts.Claims
@@ -127,39 +130,42 @@ fit-value-claims t = (
   in-union-reads.Learnt,
 )
 
-fit-value-mul-kind : (t : ℕ) → fit-value-lts.Need-mul-kind (fit-value-claims t) (fit-value-at t) fit-value.Post
+abbrev fit-value-need : (fit-value-lts.Claims → In 3 fit-value-kinds.ps → Out 3 fit-value-kinds.ps fit-value-kinds.r → Type 0) → Type 0
+fit-value-need N = (t : ℕ) → N (fit-value-claims t) (fit-value-at t) fit-value.Post
+
+fit-value-mul-kind : fit-value-need fit-value-lts.Need-mul-kind
 fit-value-mul-kind t c = search needs
 
-fit-value-shared-slice-read-kind : (t : ℕ) → fit-value-lts.Need-shared-slice-read-kind (fit-value-claims t) (fit-value-at t) fit-value.Post
+fit-value-shared-slice-read-kind : fit-value-need fit-value-lts.Need-shared-slice-read-kind
 fit-value-shared-slice-read-kind t c = omega (arith, laws.type-in (c .before .before .before .before .pre .1))
 
-fit-value-mul-if1 : (t : ℕ) → fit-value-lts.Need-mul-if1 (fit-value-claims t) (fit-value-at t) fit-value.Post
+fit-value-mul-if1 : fit-value-need fit-value-lts.Need-mul-if1
 fit-value-mul-if1 t c = search needs
 
-fit-value-shared-slice-read-if1 : (t : ℕ) → fit-value-lts.Need-shared-slice-read-if1 (fit-value-claims t) (fit-value-at t) fit-value.Post
+fit-value-shared-slice-read-if1 : fit-value-need fit-value-lts.Need-shared-slice-read-if1
 fit-value-shared-slice-read-if1 t c = omega (arith, laws.word-in (c .before .before .before .before .before .pre .1))
 
-fit-value-wide-word-requires : (t : ℕ) → fit-value-lts.Need-wide-word-requires (fit-value-claims t) (fit-value-at t) fit-value.Post
+fit-value-wide-word-requires : fit-value-need fit-value-lts.Need-wide-word-requires
 fit-value-wide-word-requires t c κs = search needs
 
-fit-value-wide-word-requires-2 : (t : ℕ) → fit-value-lts.Need-wide-word-requires-2 (fit-value-claims t) (fit-value-at t) fit-value.Post
+fit-value-wide-word-requires-2 : fit-value-need fit-value-lts.Need-wide-word-requires-2
 fit-value-wide-word-requires-2 t c κs = search needs
 
-fit-value-returns : (t : ℕ) → fit-value-lts.Need-returns (fit-value-claims t) (fit-value-at t) fit-value.Post
+fit-value-returns : fit-value-need fit-value-lts.Need-returns
 fit-value-returns t c = rw (c .wide-word2 .ensures) (laws.differ (λ z. c .before .if1 .taken (z ∙ sym (c .before .before .wide-word .ensures))))
 
-fit-value-add-x : (t : ℕ) → fit-value-lts.Need-add-x (fit-value-claims t) (fit-value-at t) fit-value.Post
+fit-value-add-x : fit-value-need fit-value-lts.Need-add-x
 fit-value-add-x t c = search needs
 
-fit-value-mul-x : (t : ℕ) → fit-value-lts.Need-mul-x (fit-value-claims t) (fit-value-at t) fit-value.Post
+fit-value-mul-x : fit-value-need fit-value-lts.Need-mul-x
 fit-value-mul-x t c = search needs
 
-fit-value-shared-slice-read-x : (t : ℕ) → fit-value-lts.Need-shared-slice-read-x (fit-value-claims t) (fit-value-at t) fit-value.Post
+fit-value-shared-slice-read-x : fit-value-need fit-value-lts.Need-shared-slice-read-x
 fit-value-shared-slice-read-x t c =
     let same = c .before .if1 .left ∙ c .before .before .wide-word .ensures in
     omega (arith, laws.word-second (c .before .before .before .before .before .before .before .before .pre .1) same)
 
-fit-value-fit-leaf-requires : (t : ℕ) → fit-value-lts.Need-fit-leaf-requires (fit-value-claims t) (fit-value-at t) fit-value.Post
+fit-value-fit-leaf-requires : fit-value-need fit-value-lts.Need-fit-leaf-requires
 fit-value-fit-leaf-requires t c κs =
     let c₁ = c .before .before .before in
     let c₂ = c₁ .before .before .before .before .before .before in
@@ -167,7 +173,7 @@ fit-value-fit-leaf-requires t c κs =
     let same = c .before .before .if1 .left ∙ c₁ .wide-word .ensures in
     (omega (arith, laws.type-in s), omega (arith, laws.word-second s same), laws.leaf-room s same (c .if2 .taken), s .small, λ z. omega (arith, c .if2 .taken))
 
-fit-value-returns-2 : (t : ℕ) → fit-value-lts.Need-returns-2 (fit-value-claims t) (fit-value-at t) fit-value.Post
+fit-value-returns-2 : fit-value-need fit-value-lts.Need-returns-2
 fit-value-returns-2 t c =
     let c₁ = c .before .before .before in
     let c₂ = c₁ .before in
@@ -175,16 +181,16 @@ fit-value-returns-2 t c =
     let same = c₁ .if1 .left ∙ c₂ .wide-word .ensures in
     rw (c .fit-leaf .ensures) (laws.leaf same (c₃ .pre .1) (c .before .if2 .taken))
 
-fit-value-add-n : (t : ℕ) → fit-value-lts.Need-add-n (fit-value-claims t) (fit-value-at t) fit-value.Post
+fit-value-add-n : fit-value-need fit-value-lts.Need-add-n
 fit-value-add-n t c = search needs
 
-fit-value-mul-n : (t : ℕ) → fit-value-lts.Need-mul-n (fit-value-claims t) (fit-value-at t) fit-value.Post
+fit-value-mul-n : fit-value-need fit-value-lts.Need-mul-n
 fit-value-mul-n t c = search needs
 
-fit-value-shared-slice-read-n : (t : ℕ) → fit-value-lts.Need-shared-slice-read-n (fit-value-claims t) (fit-value-at t) fit-value.Post
+fit-value-shared-slice-read-n : fit-value-need fit-value-lts.Need-shared-slice-read-n
 fit-value-shared-slice-read-n t c = omega (arith, laws.type-second (c .before .before .before .before .before .before .before .before .before .before .pre .1) (c .before .if2 .left))
 
-fit-value-fit-ref-requires : (t : ℕ) → fit-value-lts.Need-fit-ref-requires (fit-value-claims t) (fit-value-at t) fit-value.Post
+fit-value-fit-ref-requires : fit-value-need fit-value-lts.Need-fit-ref-requires
 fit-value-fit-ref-requires t c κs =
     let c₁ = c .before .before .before .before in
     let c₂ = c₁ .before in
@@ -193,7 +199,7 @@ fit-value-fit-ref-requires t c κs =
     let same = c₁ .if1 .left ∙ c₂ .wide-word .ensures in
     (omega (arith, laws.type-second s (c .before .before .if2 .left)), omega (arith, laws.word-second s same))
 
-fit-value-returns-3 : (t : ℕ) → fit-value-lts.Need-returns-3 (fit-value-claims t) (fit-value-at t) fit-value.Post
+fit-value-returns-3 : fit-value-need fit-value-lts.Need-returns-3
 fit-value-returns-3 t c =
     let c₁ = c .before .before .before .before .before in
     let c₂ = c₁ .before in
@@ -201,17 +207,17 @@ fit-value-returns-3 t c =
     let same = c₁ .if1 .left ∙ c₂ .wide-word .ensures in
     rw (c .fit-ref .ensures) (laws.reference same (c₃ .pre .1) (c .before .if3 .taken))
 
-fit-value-wide-word-requires-3 : (t : ℕ) → fit-value-lts.Need-wide-word-requires-3 (fit-value-claims t) (fit-value-at t) fit-value.Post
+fit-value-wide-word-requires-3 : fit-value-need fit-value-lts.Need-wide-word-requires-3
 fit-value-wide-word-requires-3 t c κs = search needs
 
-fit-value-returns-4 : (t : ℕ) → fit-value-lts.Need-returns-4 (fit-value-claims t) (fit-value-at t) fit-value.Post
+fit-value-returns-4 : fit-value-need fit-value-lts.Need-returns-4
 fit-value-returns-4 t c =
     let c₁ = c .before .before .before .before .before .before .before in
     let c₂ = c₁ .before in
     let same = c₁ .if1 .left ∙ c₂ .wide-word .ensures in
     laws.miscount same (c .before .before .if4 .taken) (λ z. c .if5 .taken (z ∙ sym (c .before .wide-word3 .ensures)))
 
-fit-value-returns-5 : (t : ℕ) → fit-value-lts.Need-returns-5 (fit-value-claims t) (fit-value-at t) fit-value.Post
+fit-value-returns-5 : fit-value-need fit-value-lts.Need-returns-5
 fit-value-returns-5 t c =
     let c₁ = c .before .before .before in
     let c₂ = c₁ .before .before .before .before .before in
@@ -220,16 +226,16 @@ fit-value-returns-5 t c =
     let count = c .before .if5 .left ∙ c .before .before .wide-word3 .ensures in
     laws.too-deep same (c₁ .if4 .taken) count (c .if6 .taken)
 
-fit-value-add-fit-fields : (t : ℕ) → fit-value-lts.Need-add-fit-fields (fit-value-claims t) (fit-value-at t) fit-value.Post
+fit-value-add-fit-fields : fit-value-need fit-value-lts.Need-add-fit-fields
 fit-value-add-fit-fields t c = search needs
 
-fit-value-add-fit-fields-2 : (t : ℕ) → fit-value-lts.Need-add-fit-fields-2 (fit-value-claims t) (fit-value-at t) fit-value.Post
+fit-value-add-fit-fields-2 : fit-value-need fit-value-lts.Need-add-fit-fields-2
 fit-value-add-fit-fields-2 t c = search needs
 
-fit-value-add-fit-fields-3 : (t : ℕ) → fit-value-lts.Need-add-fit-fields-3 (fit-value-claims t) (fit-value-at t) fit-value.Post
+fit-value-add-fit-fields-3 : fit-value-need fit-value-lts.Need-add-fit-fields-3
 fit-value-add-fit-fields-3 t c = search needs
 
-fit-value-fit-fields-requires : (t : ℕ) → fit-value-lts.Need-fit-fields-requires (fit-value-claims t) (fit-value-at t) fit-value.Post
+fit-value-fit-fields-requires : fit-value-need fit-value-lts.Need-fit-fields-requires
 fit-value-fit-fields-requires t c κs =
     let c₁ = c .before .before .before in
     let c₂ = c₁ .before .before .before .before .before in
@@ -240,11 +246,11 @@ fit-value-fit-fields-requires t c κs =
     let count = c .before .if5 .left ∙ c .before .before .wide-word3 .ensures in
     (omega (arith, c₄ .pre .0, laws.word-second s same), laws.fields-stand s same (c₁ .if4 .taken) count)
 
-fit-value-in-record-requires : (t : ℕ) → fit-value-lts.Need-in-record-requires (fit-value-claims t) (fit-value-at t) fit-value.Post
+fit-value-in-record-requires : fit-value-need fit-value-lts.Need-in-record-requires
 fit-value-in-record-requires t c κs =
     laws.fields-short (c .before .before .before .before .before .before .before .before .before .before .before .before .before .before .before .before .pre .1) (c .fit-fields .ensures)
 
-fit-value-returns-6 : (t : ℕ) → fit-value-lts.Need-returns-6 (fit-value-claims t) (fit-value-at t) fit-value.Post
+fit-value-returns-6 : fit-value-need fit-value-lts.Need-returns-6
 fit-value-returns-6 t c =
     let c₁ = c .before .before .before in
     let c₂ = c₁ .before in
@@ -255,10 +261,10 @@ fit-value-returns-6 t c =
     let count = c₁ .if5 .left ∙ c₂ .wide-word3 .ensures in
     rw (c .in-record .ensures) (laws.in-record same (c₃ .if4 .taken) count (c .before .before .if6 .left) (c .before .fit-fields .ensures))
 
-fit-value-alternative-requires : (t : ℕ) → fit-value-lts.Need-alternative-requires (fit-value-claims t) (fit-value-at t) fit-value.Post
+fit-value-alternative-requires : fit-value-need fit-value-lts.Need-alternative-requires
 fit-value-alternative-requires t c κs = search needs
 
-fit-value-returns-7 : (t : ℕ) → fit-value-lts.Need-returns-7 (fit-value-claims t) (fit-value-at t) fit-value.Post
+fit-value-returns-7 : fit-value-need fit-value-lts.Need-returns-7
 fit-value-returns-7 t c =
     let c₁ = c .before .before .before in
     let c₂ = c₁ .before .before in
@@ -267,7 +273,7 @@ fit-value-returns-7 t c =
     let same = c₃ .if1 .left ∙ c₄ .wide-word .ensures in
     laws.no-alternative same (omega (arith, c₂ .if2 .left, c₁ .if3 .left)) (c .before .before .if4 .left) (c .before .alternative .ensures) (c .if7 .taken)
 
-fit-value-returns-8 : (t : ℕ) → fit-value-lts.Need-returns-8 (fit-value-claims t) (fit-value-at t) fit-value.Post
+fit-value-returns-8 : fit-value-need fit-value-lts.Need-returns-8
 fit-value-returns-8 t c =
     let c₁ = c .before .before .before in
     let c₂ = c₁ .before in
@@ -277,13 +283,13 @@ fit-value-returns-8 t c =
     let same = c₄ .if1 .left ∙ c₅ .wide-word .ensures in
     laws.deep-union same (omega (arith, c₃ .if2 .left, c₂ .if3 .left)) (c₁ .if4 .left) (c .before .before .alternative .ensures) (c .before .if7 .left) (c .if8 .taken)
 
-fit-value-add-fit-value : (t : ℕ) → fit-value-lts.Need-add-fit-value (fit-value-claims t) (fit-value-at t) fit-value.Post
+fit-value-add-fit-value : fit-value-need fit-value-lts.Need-add-fit-value
 fit-value-add-fit-value t c = search needs
 
-fit-value-add-fit-value-2 : (t : ℕ) → fit-value-lts.Need-add-fit-value-2 (fit-value-claims t) (fit-value-at t) fit-value.Post
+fit-value-add-fit-value-2 : fit-value-need fit-value-lts.Need-add-fit-value-2
 fit-value-add-fit-value-2 t c = search needs
 
-fit-value-fit-value-requires : (t : ℕ) → fit-value-lts.Need-fit-value-requires (fit-value-claims t) (fit-value-at t) fit-value.Post
+fit-value-fit-value-requires : fit-value-need fit-value-lts.Need-fit-value-requires
 fit-value-fit-value-requires t c κs =
     let c₁ = c .before .before .before in
     let c₂ = c₁ .before in
@@ -295,11 +301,11 @@ fit-value-fit-value-requires t c κs =
     let same = c₄ .if1 .left ∙ c₅ .wide-word .ensures in
     (omega (arith, c₆ .pre .0, laws.word-second s same), laws.payload-stands same (omega (arith, c₃ .if2 .left, c₂ .if3 .left)) (c₁ .if4 .left) (c .before .before .alternative .ensures) s (c .before .if7 .left))
 
-fit-value-in-union-requires : (t : ℕ) → fit-value-lts.Need-in-union-requires (fit-value-claims t) (fit-value-at t) fit-value.Post
+fit-value-in-union-requires : fit-value-need fit-value-lts.Need-in-union-requires
 fit-value-in-union-requires t c κs =
     laws.value-short (c .before .before .before .before .before .before .before .before .before .before .before .before .before .before .before .before .pre .1) (c .fit-value .ensures)
 
-fit-value-returns-9 : (t : ℕ) → fit-value-lts.Need-returns-9 (fit-value-claims t) (fit-value-at t) fit-value.Post
+fit-value-returns-9 : fit-value-need fit-value-lts.Need-returns-9
 fit-value-returns-9 t c =
     let c₁ = c .before .before .before in
     let c₂ = c₁ .before in

@@ -6,7 +6,7 @@ use native.Mathlib.Omega.{arith}
 use lib.ListN.{length}
 use borrow.Author.Needs.{needs}
 use Rattle.read.proofs.FieldLaws as fields
-use borrow.Fn.Kinds.{In}
+use borrow.Fn.Kinds.{In, Out}
 use borrow.Fn.PlainCycle.{Measures, is, falls, and}
 use Rattle.read.proofs.values.walk_fields.Reads as walk-fields
 use Rattle.read.proofs.values.walk_fields.Kinds as walk-fields-kinds
@@ -139,100 +139,103 @@ in-union t c =
     let g = c .before .before in
     record { o = g .before .before .open-union .result; opened = opened-union t (g .before .before); tagged = g .tag .given .1; picks = c .alternative .ensures }
 
-walk-fields-loop-holds : (t : ℕ) → walk-fields-lts.Need-loop-holds (walk-fields-claims t) (walk-fields-at t) walk-fields.Post walk-fields-Inv-loop walk-fields-μ-loop
+abbrev walk-fields-need : (walk-fields-lts.Claims → In 2 walk-fields-kinds.ps → Out 2 walk-fields-kinds.ps walk-fields-kinds.r → walk-fields-lts.InvT-loop → walk-fields-lts.MeasureT-loop → Type 0) → Type 0
+walk-fields-need N = (t : ℕ) → N (walk-fields-claims t) (walk-fields-at t) walk-fields.Post walk-fields-Inv-loop walk-fields-μ-loop
+
+walk-fields-loop-holds : walk-fields-need walk-fields-lts.Need-loop-holds
 walk-fields-loop-holds t c =
     let s = c .before .before in
     fields.t-start (s .pre .1 .0) (s .pre .1 .1)
 
-walk-fields-field-refusal-requires : (t : ℕ) → walk-fields-lts.Need-field-refusal-requires (walk-fields-claims t) (walk-fields-at t) walk-fields.Post walk-fields-Inv-loop walk-fields-μ-loop
+walk-fields-field-refusal-requires : walk-fields-need walk-fields-lts.Need-field-refusal-requires
 walk-fields-field-refusal-requires t c κs = c .before .loop .inv .place
 
-walk-fields-bad-requires : (t : ℕ) → walk-fields-lts.Need-bad-requires (walk-fields-claims t) (walk-fields-at t) walk-fields.Post walk-fields-Inv-loop walk-fields-μ-loop
+walk-fields-bad-requires : walk-fields-need walk-fields-lts.Need-bad-requires
 walk-fields-bad-requires t c κs = search needs
 
-walk-fields-returns : (t : ℕ) → walk-fields-lts.Need-returns (walk-fields-claims t) (walk-fields-at t) walk-fields.Post walk-fields-Inv-loop walk-fields-μ-loop
+walk-fields-returns : walk-fields-need walk-fields-lts.Need-returns
 walk-fields-returns t c =
     let at-if1 = c .before in
     let at-field-refusal = at-if1 .before in
     let at-loop-test = at-field-refusal .before in
     rw (c .bad .ensures) (fields.t-not (at-loop-test .before .loop .inv) (at-loop-test .loop-test .taken) (at-field-refusal .field-refusal .ensures) (at-if1 .if1 .taken))
 
-walk-fields-asks-requires : (t : ℕ) → walk-fields-lts.Need-asks-requires (walk-fields-claims t) (walk-fields-at t) walk-fields.Post walk-fields-Inv-loop walk-fields-μ-loop
+walk-fields-asks-requires : walk-fields-need walk-fields-lts.Need-asks-requires
 walk-fields-asks-requires t c κs = search needs
 
-walk-fields-walk-value-requires : (t : ℕ) → walk-fields-lts.Need-walk-value-requires (walk-fields-claims t) (walk-fields-at t) walk-fields.Post walk-fields-Inv-loop walk-fields-μ-loop
+walk-fields-walk-value-requires : walk-fields-need walk-fields-lts.Need-walk-value-requires
 walk-fields-walk-value-requires t c κs =
     let at-loop-test = c .before .before .before in
     let l = at-loop-test .before in
     let s = l .before .before .before in
     (omega (arith, s .pre .0, l .loop .inv .few (at-loop-test .loop-test .taken)), (fields.t-type (l .loop .inv) (at-loop-test .loop-test .taken), l .loop .inv .place))
 
-walk-fields-enum-known-no : (t : ℕ) → walk-fields-lts.Need-enum-known-no (walk-fields-claims t) (walk-fields-at t) walk-fields.Post walk-fields-Inv-loop walk-fields-μ-loop
+walk-fields-enum-known-no : walk-fields-need walk-fields-lts.Need-enum-known-no
 walk-fields-enum-known-no t c = search needs
 
-walk-fields-add-bad : (t : ℕ) → walk-fields-lts.Need-add-bad (walk-fields-claims t) (walk-fields-at t) walk-fields.Post walk-fields-Inv-loop walk-fields-μ-loop
+walk-fields-add-bad : walk-fields-need walk-fields-lts.Need-add-bad
 walk-fields-add-bad t c =
     let at-no = c .before in
     let at-walk-value = at-no .before .before in
     let s = at-walk-value .before .before .before .before .before .before .before .before in
     omega (arith, fields.t-few (turn t at-walk-value) (at-no .no .given .1), s .good .0 .0)
 
-walk-fields-bad-requires-2 : (t : ℕ) → walk-fields-lts.Need-bad-requires-2 (walk-fields-claims t) (walk-fields-at t) walk-fields.Post walk-fields-Inv-loop walk-fields-μ-loop
+walk-fields-bad-requires-2 : walk-fields-need walk-fields-lts.Need-bad-requires-2
 walk-fields-bad-requires-2 t c κs = search needs
 
-walk-fields-returns-2 : (t : ℕ) → walk-fields-lts.Need-returns-2 (walk-fields-claims t) (walk-fields-at t) walk-fields.Post walk-fields-Inv-loop walk-fields-μ-loop
+walk-fields-returns-2 : walk-fields-need walk-fields-lts.Need-returns-2
 walk-fields-returns-2 t c =
     let at-no = c .before .before in
     rw (c .bad2 .ensures) (fields.t-bad (turn t (at-no .before .before)) (at-no .no .given .1))
 
-walk-fields-enum-known-behind : (t : ℕ) → walk-fields-lts.Need-enum-known-behind (walk-fields-claims t) (walk-fields-at t) walk-fields.Post walk-fields-Inv-loop walk-fields-μ-loop
+walk-fields-enum-known-behind : walk-fields-need walk-fields-lts.Need-enum-known-behind
 walk-fields-enum-known-behind t c = search needs
 
-walk-fields-add-w : (t : ℕ) → walk-fields-lts.Need-add-w (walk-fields-claims t) (walk-fields-at t) walk-fields.Post walk-fields-Inv-loop walk-fields-μ-loop
+walk-fields-add-w : walk-fields-need walk-fields-lts.Need-add-w
 walk-fields-add-w t c =
     let at-behind = c .before in
     let at-walk-value = at-behind .before .before in
     let s = at-walk-value .before .before .before .before .before .before .before .before in
     omega (arith, fields.t-sums (turn t at-walk-value) (at-behind .behind .given .1) .0, s .good .0 .1)
 
-walk-fields-add-p : (t : ℕ) → walk-fields-lts.Need-add-p (walk-fields-claims t) (walk-fields-at t) walk-fields.Post walk-fields-Inv-loop walk-fields-μ-loop
+walk-fields-add-p : walk-fields-need walk-fields-lts.Need-add-p
 walk-fields-add-p t c =
     let at-behind = c .before in
     let at-walk-value = at-behind .before .before in
     let s = at-walk-value .before .before .before .before .before .before .before .before in
     omega (arith, fields.t-sums (turn t at-walk-value) (at-behind .behind .given .1) .1, s .good .1 .1 .1 .0 .0)
 
-walk-fields-add-b : (t : ℕ) → walk-fields-lts.Need-add-b (walk-fields-claims t) (walk-fields-at t) walk-fields.Post walk-fields-Inv-loop walk-fields-μ-loop
+walk-fields-add-b : walk-fields-need walk-fields-lts.Need-add-b
 walk-fields-add-b t c =
     let at-behind = c .before in
     let at-walk-value = at-behind .before .before in
     let s = at-walk-value .before .before .before .before .before .before .before .before in
     omega (arith, fields.t-sums (turn t at-walk-value) (at-behind .behind .given .1) .2, s .good .0 .0)
 
-walk-fields-sub-left : (t : ℕ) → walk-fields-lts.Need-sub-left (walk-fields-claims t) (walk-fields-at t) walk-fields.Post walk-fields-Inv-loop walk-fields-μ-loop
+walk-fields-sub-left : walk-fields-need walk-fields-lts.Need-sub-left
 walk-fields-sub-left t c = search needs
 
-walk-fields-loop-less : (t : ℕ) → walk-fields-lts.Need-loop-less (walk-fields-claims t) (walk-fields-at t) walk-fields.Post walk-fields-Inv-loop walk-fields-μ-loop
+walk-fields-loop-less : walk-fields-need walk-fields-lts.Need-loop-less
 walk-fields-loop-less t c = search needs
 
-walk-fields-loop-again : (t : ℕ) → walk-fields-lts.Need-loop-again (walk-fields-claims t) (walk-fields-at t) walk-fields.Post walk-fields-Inv-loop walk-fields-μ-loop
+walk-fields-loop-again : walk-fields-need walk-fields-lts.Need-loop-again
 walk-fields-loop-again t c =
     let at-behind = c .before in
     fields.t-next (turn t (at-behind .before .before)) (at-behind .behind .given .1)
 
-walk-fields-fields-end-requires : (t : ℕ) → walk-fields-lts.Need-fields-end-requires (walk-fields-claims t) (walk-fields-at t) walk-fields.Post walk-fields-Inv-loop walk-fields-μ-loop
+walk-fields-fields-end-requires : walk-fields-need walk-fields-lts.Need-fields-end-requires
 walk-fields-fields-end-requires t c κs = c .before .loop .inv .place
 
-walk-fields-enum-known-no-2 : (t : ℕ) → walk-fields-lts.Need-enum-known-no-2 (walk-fields-claims t) (walk-fields-at t) walk-fields.Post walk-fields-Inv-loop walk-fields-μ-loop
+walk-fields-enum-known-no-2 : walk-fields-need walk-fields-lts.Need-enum-known-no-2
 walk-fields-enum-known-no-2 t c = search needs
 
-walk-fields-bad-requires-3 : (t : ℕ) → walk-fields-lts.Need-bad-requires-3 (walk-fields-claims t) (walk-fields-at t) walk-fields.Post walk-fields-Inv-loop walk-fields-μ-loop
+walk-fields-bad-requires-3 : walk-fields-need walk-fields-lts.Need-bad-requires-3
 walk-fields-bad-requires-3 t c κs = search needs
 
-walk-fields-enum-known-next : (t : ℕ) → walk-fields-lts.Need-enum-known-next (walk-fields-claims t) (walk-fields-at t) walk-fields.Post walk-fields-Inv-loop walk-fields-μ-loop
+walk-fields-enum-known-next : walk-fields-need walk-fields-lts.Need-enum-known-next
 walk-fields-enum-known-next t c = search needs
 
-walk-fields-returns-3 : (t : ℕ) → walk-fields-lts.Need-returns-3 (walk-fields-claims t) (walk-fields-at t) walk-fields.Post walk-fields-Inv-loop walk-fields-μ-loop
+walk-fields-returns-3 : walk-fields-need walk-fields-lts.Need-returns-3
 walk-fields-returns-3 t c =
     let at-no2 = c .before .before in
     let at-fields-end = at-no2 .before .before in
@@ -240,89 +243,92 @@ walk-fields-returns-3 t c =
     rw (c .bad3 .ensures)
     (fields.t-end (at-loop-test .before .loop .inv) (at-loop-test .loop-test .left) (rw (at-no2 .no2 .given .1) at (at-fields-end .fields-end .ensures)))
 
-walk-fields-returns-4 : (t : ℕ) → walk-fields-lts.Need-returns-4 (walk-fields-claims t) (walk-fields-at t) walk-fields.Post walk-fields-Inv-loop walk-fields-μ-loop
+walk-fields-returns-4 : walk-fields-need walk-fields-lts.Need-returns-4
 walk-fields-returns-4 t c =
     let at-next = c .before in
     let at-fields-end = at-next .before .before in
     let at-loop-test = at-fields-end .before in
     fields.t-done (at-loop-test .before .loop .inv) (at-loop-test .loop-test .left) (rw (at-next .next .given .1) at (at-fields-end .fields-end .ensures))
 
-walk-value-mul-kind : (t : ℕ) → walk-value-lts.Need-mul-kind (walk-value-claims t) (walk-value-at t) walk-value.Post
+abbrev walk-value-need : (walk-value-lts.Claims → In 2 walk-value-kinds.ps → Out 2 walk-value-kinds.ps walk-value-kinds.r → Type 0) → Type 0
+walk-value-need N = (t : ℕ) → N (walk-value-claims t) (walk-value-at t) walk-value.Post
+
+walk-value-mul-kind : walk-value-need walk-value-lts.Need-mul-kind
 walk-value-mul-kind t c = search needs
 
-walk-value-shared-slice-read-kind : (t : ℕ) → walk-value-lts.Need-shared-slice-read-kind (walk-value-claims t) (walk-value-at t) walk-value.Post
+walk-value-shared-slice-read-kind : walk-value-need walk-value-lts.Need-shared-slice-read-kind
 walk-value-shared-slice-read-kind t c =
     let s = c .before .before .before in
     omega (arith, laws.at-in (s .pre .1 .0))
 
-walk-value-sub-walk-scalar : (t : ℕ) → walk-value-lts.Need-sub-walk-scalar (walk-value-claims t) (walk-value-at t) walk-value.Post
+walk-value-sub-walk-scalar : walk-value-need walk-value-lts.Need-sub-walk-scalar
 walk-value-sub-walk-scalar t c = search needs
 
-walk-value-part-walk-scalar-start : (t : ℕ) → walk-value-lts.Need-part-walk-scalar-start (walk-value-claims t) (walk-value-at t) walk-value.Post
+walk-value-part-walk-scalar-start : walk-value-need walk-value-lts.Need-part-walk-scalar-start
 walk-value-part-walk-scalar-start t c = search needs
 
-walk-value-part-walk-scalar-end : (t : ℕ) → walk-value-lts.Need-part-walk-scalar-end (walk-value-claims t) (walk-value-at t) walk-value.Post
+walk-value-part-walk-scalar-end : walk-value-need walk-value-lts.Need-part-walk-scalar-end
 walk-value-part-walk-scalar-end t c = search needs
 
-walk-value-walk-scalar-requires : (t : ℕ) → walk-value-lts.Need-walk-scalar-requires (walk-value-claims t) (walk-value-at t) walk-value.Post
+walk-value-walk-scalar-requires : walk-value-need walk-value-lts.Need-walk-scalar-requires
 walk-value-walk-scalar-requires t c κs =
     let at-if1 = c .before in
     let s = at-if1 .before .before .before .before in
     (s .pre .1 .0, (at-if1 .if1 .taken, omega (arith, laws.rest-room (s .args .bytes .now) (s .args .i) (s .pre .1 .1))))
 
-walk-value-returns : (t : ℕ) → walk-value-lts.Need-returns (walk-value-claims t) (walk-value-at t) walk-value.Post
+walk-value-returns : walk-value-need walk-value-lts.Need-returns
 walk-value-returns t c =
     let s = c .before .before .before .before .before .before in
     laws.v-scalar (s .pre .1 .1) (c .walk-scalar .ensures)
 
-walk-value-add-n : (t : ℕ) → walk-value-lts.Need-add-n (walk-value-claims t) (walk-value-at t) walk-value.Post
+walk-value-add-n : walk-value-need walk-value-lts.Need-add-n
 walk-value-add-n t c =
     let s = c .before .before .before .before .before in
     omega (arith, laws.second-in (s .pre .1 .0) (c .if2 .taken))
 
-walk-value-mul-n : (t : ℕ) → walk-value-lts.Need-mul-n (walk-value-claims t) (walk-value-at t) walk-value.Post
+walk-value-mul-n : walk-value-need walk-value-lts.Need-mul-n
 walk-value-mul-n t c = search needs
 
-walk-value-shared-slice-read-n : (t : ℕ) → walk-value-lts.Need-shared-slice-read-n (walk-value-claims t) (walk-value-at t) walk-value.Post
+walk-value-shared-slice-read-n : walk-value-need walk-value-lts.Need-shared-slice-read-n
 walk-value-shared-slice-read-n t c =
     let at-if2 = c .before in
     let s = at-if2 .before .before .before .before .before in
     omega (arith, laws.second-in (s .pre .1 .0) (at-if2 .if2 .taken))
 
-walk-value-sub-open-record : (t : ℕ) → walk-value-lts.Need-sub-open-record (walk-value-claims t) (walk-value-at t) walk-value.Post
+walk-value-sub-open-record : walk-value-need walk-value-lts.Need-sub-open-record
 walk-value-sub-open-record t c = search needs
 
-walk-value-part-open-record-start : (t : ℕ) → walk-value-lts.Need-part-open-record-start (walk-value-claims t) (walk-value-at t) walk-value.Post
+walk-value-part-open-record-start : walk-value-need walk-value-lts.Need-part-open-record-start
 walk-value-part-open-record-start t c = search needs
 
-walk-value-part-open-record-end : (t : ℕ) → walk-value-lts.Need-part-open-record-end (walk-value-claims t) (walk-value-at t) walk-value.Post
+walk-value-part-open-record-end : walk-value-need walk-value-lts.Need-part-open-record-end
 walk-value-part-open-record-end t c = search needs
 
-walk-value-open-record-requires : (t : ℕ) → walk-value-lts.Need-open-record-requires (walk-value-claims t) (walk-value-at t) walk-value.Post
+walk-value-open-record-requires : walk-value-need walk-value-lts.Need-open-record-requires
 walk-value-open-record-requires t c κs = search needs
 
-walk-value-enum-known-no : (t : ℕ) → walk-value-lts.Need-enum-known-no (walk-value-claims t) (walk-value-at t) walk-value.Post
+walk-value-enum-known-no : walk-value-need walk-value-lts.Need-enum-known-no
 walk-value-enum-known-no t c = search needs
 
-walk-value-bad-requires : (t : ℕ) → walk-value-lts.Need-bad-requires (walk-value-claims t) (walk-value-at t) walk-value.Post
+walk-value-bad-requires : walk-value-need walk-value-lts.Need-bad-requires
 walk-value-bad-requires t c κs = search needs
 
-walk-value-enum-known-used : (t : ℕ) → walk-value-lts.Need-enum-known-used (walk-value-claims t) (walk-value-at t) walk-value.Post
+walk-value-enum-known-used : walk-value-need walk-value-lts.Need-enum-known-used
 walk-value-enum-known-used t c = search needs
 
-walk-value-add-walk-fields : (t : ℕ) → walk-value-lts.Need-add-walk-fields (walk-value-claims t) (walk-value-at t) walk-value.Post
+walk-value-add-walk-fields : walk-value-need walk-value-lts.Need-add-walk-fields
 walk-value-add-walk-fields t c =
     let at-if2 = c .before .before .before .before .before .before in
     let s = at-if2 .before .before .before .before .before in
     omega (arith, laws.second-in (s .pre .1 .0) (at-if2 .if2 .taken))
 
-walk-value-add-walk-fields-2 : (t : ℕ) → walk-value-lts.Need-add-walk-fields-2 (walk-value-claims t) (walk-value-at t) walk-value.Post
+walk-value-add-walk-fields-2 : walk-value-need walk-value-lts.Need-add-walk-fields-2
 walk-value-add-walk-fields-2 t c = omega (arith, laws.v-record-next (in-record t (c .before)) .1)
 
-walk-value-add-walk-fields-3 : (t : ℕ) → walk-value-lts.Need-add-walk-fields-3 (walk-value-claims t) (walk-value-at t) walk-value.Post
+walk-value-add-walk-fields-3 : walk-value-need walk-value-lts.Need-add-walk-fields-3
 walk-value-add-walk-fields-3 t c = omega (arith, laws.v-record-next (in-record t (c .before)) .0)
 
-walk-value-walk-fields-requires : (t : ℕ) → walk-value-lts.Need-walk-fields-requires (walk-value-claims t) (walk-value-at t) walk-value.Post
+walk-value-walk-fields-requires : walk-value-need walk-value-lts.Need-walk-fields-requires
 walk-value-walk-fields-requires t c κs =
     let at-used = c .before in
     let at-if2 = at-used .before .before .before .before .before in
@@ -330,81 +336,81 @@ walk-value-walk-fields-requires t c κs =
     let n = laws.v-record-next (in-record t at-used) in
     (omega (arith, s .pre .0, laws.second-in (s .pre .1 .0) (at-if2 .if2 .taken)), (n .2, n .1))
 
-walk-value-more-requires : (t : ℕ) → walk-value-lts.Need-more-requires (walk-value-claims t) (walk-value-at t) walk-value.Post
+walk-value-more-requires : walk-value-need walk-value-lts.Need-more-requires
 walk-value-more-requires t c κs = (omega arith, omega arith, laws.v-record-small (in-record t (c .before .before)) (c .walk-fields .ensures))
 
-walk-value-returns-2 : (t : ℕ) → walk-value-lts.Need-returns-2 (walk-value-claims t) (walk-value-at t) walk-value.Post
+walk-value-returns-2 : walk-value-need walk-value-lts.Need-returns-2
 walk-value-returns-2 t c =
     let at-no = c .before .before in
     rw (c .bad .ensures) (laws.v-record-bad (opened-record t (at-no .before .before)) (at-no .no .given .1))
 
-walk-value-returns-3 : (t : ℕ) → walk-value-lts.Need-returns-3 (walk-value-claims t) (walk-value-at t) walk-value.Post
+walk-value-returns-3 : walk-value-need walk-value-lts.Need-returns-3
 walk-value-returns-3 t c =
     let at-walk-fields = c .before in
     rw (c .more .ensures) (laws.v-record (in-record t (at-walk-fields .before .before)) (at-walk-fields .walk-fields .ensures))
 
-walk-value-sub-open-union : (t : ℕ) → walk-value-lts.Need-sub-open-union (walk-value-claims t) (walk-value-at t) walk-value.Post
+walk-value-sub-open-union : walk-value-need walk-value-lts.Need-sub-open-union
 walk-value-sub-open-union t c = search needs
 
-walk-value-part-open-union-start : (t : ℕ) → walk-value-lts.Need-part-open-union-start (walk-value-claims t) (walk-value-at t) walk-value.Post
+walk-value-part-open-union-start : walk-value-need walk-value-lts.Need-part-open-union-start
 walk-value-part-open-union-start t c = search needs
 
-walk-value-part-open-union-end : (t : ℕ) → walk-value-lts.Need-part-open-union-end (walk-value-claims t) (walk-value-at t) walk-value.Post
+walk-value-part-open-union-end : walk-value-need walk-value-lts.Need-part-open-union-end
 walk-value-part-open-union-end t c = search needs
 
-walk-value-open-union-requires : (t : ℕ) → walk-value-lts.Need-open-union-requires (walk-value-claims t) (walk-value-at t) walk-value.Post
+walk-value-open-union-requires : walk-value-need walk-value-lts.Need-open-union-requires
 walk-value-open-union-requires t c κs = search needs
 
-walk-value-enum-known-no-2 : (t : ℕ) → walk-value-lts.Need-enum-known-no-2 (walk-value-claims t) (walk-value-at t) walk-value.Post
+walk-value-enum-known-no-2 : walk-value-need walk-value-lts.Need-enum-known-no-2
 walk-value-enum-known-no-2 t c = search needs
 
-walk-value-bad-requires-2 : (t : ℕ) → walk-value-lts.Need-bad-requires-2 (walk-value-claims t) (walk-value-at t) walk-value.Post
+walk-value-bad-requires-2 : walk-value-need walk-value-lts.Need-bad-requires-2
 walk-value-bad-requires-2 t c κs = search needs
 
-walk-value-enum-known-tag : (t : ℕ) → walk-value-lts.Need-enum-known-tag (walk-value-claims t) (walk-value-at t) walk-value.Post
+walk-value-enum-known-tag : walk-value-need walk-value-lts.Need-enum-known-tag
 walk-value-enum-known-tag t c = search needs
 
-walk-value-alternative-requires : (t : ℕ) → walk-value-lts.Need-alternative-requires (walk-value-claims t) (walk-value-at t) walk-value.Post
+walk-value-alternative-requires : walk-value-need walk-value-lts.Need-alternative-requires
 walk-value-alternative-requires t c κs = search needs
 
-walk-value-bad-requires-3 : (t : ℕ) → walk-value-lts.Need-bad-requires-3 (walk-value-claims t) (walk-value-at t) walk-value.Post
+walk-value-bad-requires-3 : walk-value-need walk-value-lts.Need-bad-requires-3
 walk-value-bad-requires-3 t c κs = search needs
 
-walk-value-returns-4 : (t : ℕ) → walk-value-lts.Need-returns-4 (walk-value-claims t) (walk-value-at t) walk-value.Post
+walk-value-returns-4 : walk-value-need walk-value-lts.Need-returns-4
 walk-value-returns-4 t c =
     let at-if3 = c .before in
     rw (c .bad3 .ensures) (laws.v-missing (in-union t (at-if3 .before)) (at-if3 .if3 .taken))
 
-walk-value-add-walk-value : (t : ℕ) → walk-value-lts.Need-add-walk-value (walk-value-claims t) (walk-value-at t) walk-value.Post
+walk-value-add-walk-value : walk-value-need walk-value-lts.Need-add-walk-value
 walk-value-add-walk-value t c = omega (arith, laws.v-union-next (in-union t (c .before)) (c .if3 .left) .2)
 
-walk-value-add-walk-value-2 : (t : ℕ) → walk-value-lts.Need-add-walk-value-2 (walk-value-claims t) (walk-value-at t) walk-value.Post
+walk-value-add-walk-value-2 : walk-value-need walk-value-lts.Need-add-walk-value-2
 walk-value-add-walk-value-2 t c = omega (arith, laws.v-union-next (in-union t (c .before)) (c .if3 .left) .1)
 
-walk-value-walk-value-requires : (t : ℕ) → walk-value-lts.Need-walk-value-requires (walk-value-claims t) (walk-value-at t) walk-value.Post
+walk-value-walk-value-requires : walk-value-need walk-value-lts.Need-walk-value-requires
 walk-value-walk-value-requires t c κs =
     let at-alternative = c .before in
     let s = at-alternative .before .before .before .before .before .before .before .before .before .before .before in
     let n = laws.v-union-next (in-union t at-alternative) (c .if3 .left) in
     (omega (arith, s .pre .0, laws.at-in (s .pre .1 .0), n .0), (n .3, n .2))
 
-walk-value-close-union-requires : (t : ℕ) → walk-value-lts.Need-close-union-requires (walk-value-claims t) (walk-value-at t) walk-value.Post
+walk-value-close-union-requires : walk-value-need walk-value-lts.Need-close-union-requires
 walk-value-close-union-requires t c κs =
     let at-if3 = c .before in
     laws.v-in-key (in-union t (at-if3 .before)) (at-if3 .if3 .left) (c .walk-value .ensures)
 
-walk-value-more-requires-2 : (t : ℕ) → walk-value-lts.Need-more-requires-2 (walk-value-claims t) (walk-value-at t) walk-value.Post
+walk-value-more-requires-2 : walk-value-need walk-value-lts.Need-more-requires-2
 walk-value-more-requires-2 t c κs =
     let at-walk-value = c .before in
     let at-if3 = at-walk-value .before in
     (omega arith, omega arith, laws.v-union-small (in-union t (at-if3 .before)) (at-if3 .if3 .left) (at-walk-value .walk-value .ensures) _ (c .close-union .ensures))
 
-walk-value-returns-5 : (t : ℕ) → walk-value-lts.Need-returns-5 (walk-value-claims t) (walk-value-at t) walk-value.Post
+walk-value-returns-5 : walk-value-need walk-value-lts.Need-returns-5
 walk-value-returns-5 t c =
     let at-no2 = c .before .before in
     rw (c .bad2 .ensures) (laws.v-union-bad (opened-union t (at-no2 .before .before)) (at-no2 .no2 .given .1))
 
-walk-value-returns-6 : (t : ℕ) → walk-value-lts.Need-returns-6 (walk-value-claims t) (walk-value-at t) walk-value.Post
+walk-value-returns-6 : walk-value-need walk-value-lts.Need-returns-6
 walk-value-returns-6 t c =
     let at-close-union = c .before in
     let at-walk-value = at-close-union .before in

@@ -5,7 +5,7 @@ use native.Mathlib.Omega.{arith}
 use Rattle.sheet.proofs.TypeWalk.{none-left, zero-kind, scalar, short, unknown, reference, too-deep, record-end, union-end, Run, run-start, fields-done, fields-fail, fields-go, alts-done, alts-fail, alts-go, alts-out}
 use Prim.Native.Nat.{ℕ, _+_, _*_, _<_}
 use Rattle.format.specs.TypeSheet.{types, alts, typeAt}
-use borrow.Fn.Kinds.{In}
+use borrow.Fn.Kinds.{In, Out}
 use borrow.Fn.PlainCycle.{Measures, is, falls, and}
 use Rattle.sheet.proofs.types.alternatives_end.Reads as alternatives-end
 use Rattle.sheet.proofs.types.alternatives_end.Kinds as alternatives-end-kinds
@@ -81,31 +81,34 @@ alternatives-end-Inv-loop ty at count groups left₀ place₀ left place = Run (
 abbrev alternatives-end-μ-loop : alternatives-end-lts.MeasureT-loop
 alternatives-end-μ-loop ty at count groups left₀ place₀ left place = left
 
-alternatives-end-loop-holds : (t : ℕ) → alternatives-end-lts.Need-loop-holds (alternatives-end-claims t) (alternatives-end-at t) alternatives-end.Post alternatives-end-Inv-loop alternatives-end-μ-loop
+abbrev alternatives-end-need : (alternatives-end-lts.Claims → In 1 alternatives-end-kinds.ps → Out 1 alternatives-end-kinds.ps alternatives-end-kinds.r → alternatives-end-lts.InvT-loop → alternatives-end-lts.MeasureT-loop → Type 0) → Type 0
+alternatives-end-need N = (t : ℕ) → N (alternatives-end-claims t) (alternatives-end-at t) alternatives-end.Post alternatives-end-Inv-loop alternatives-end-μ-loop
+
+alternatives-end-loop-holds : alternatives-end-need alternatives-end-lts.Need-loop-holds
 alternatives-end-loop-holds t c = search run-start
 
-alternatives-end-returns : (t : ℕ) → alternatives-end-lts.Need-returns (alternatives-end-claims t) (alternatives-end-at t) alternatives-end.Post alternatives-end-Inv-loop alternatives-end-μ-loop
+alternatives-end-returns : alternatives-end-need alternatives-end-lts.Need-returns
 alternatives-end-returns t c = search alts-out
 
-alternatives-end-add-type-end : (t : ℕ) → alternatives-end-lts.Need-add-type-end (alternatives-end-claims t) (alternatives-end-at t) alternatives-end.Post alternatives-end-Inv-loop alternatives-end-μ-loop
+alternatives-end-add-type-end : alternatives-end-need alternatives-end-lts.Need-add-type-end
 alternatives-end-add-type-end t c = search needs
 
-alternatives-end-type-end-requires : (t : ℕ) → alternatives-end-lts.Need-type-end-requires (alternatives-end-claims t) (alternatives-end-at t) alternatives-end.Post alternatives-end-Inv-loop alternatives-end-μ-loop
+alternatives-end-type-end-requires : alternatives-end-need alternatives-end-lts.Need-type-end-requires
 alternatives-end-type-end-requires t c κs = (omega arith, tt)
 
-alternatives-end-returns-2 : (t : ℕ) → alternatives-end-lts.Need-returns-2 (alternatives-end-claims t) (alternatives-end-at t) alternatives-end.Post alternatives-end-Inv-loop alternatives-end-μ-loop
+alternatives-end-returns-2 : alternatives-end-need alternatives-end-lts.Need-returns-2
 alternatives-end-returns-2 t c = search alts-fail
 
-alternatives-end-sub-left : (t : ℕ) → alternatives-end-lts.Need-sub-left (alternatives-end-claims t) (alternatives-end-at t) alternatives-end.Post alternatives-end-Inv-loop alternatives-end-μ-loop
+alternatives-end-sub-left : alternatives-end-need alternatives-end-lts.Need-sub-left
 alternatives-end-sub-left t c = search needs
 
-alternatives-end-loop-less : (t : ℕ) → alternatives-end-lts.Need-loop-less (alternatives-end-claims t) (alternatives-end-at t) alternatives-end.Post alternatives-end-Inv-loop alternatives-end-μ-loop
+alternatives-end-loop-less : alternatives-end-need alternatives-end-lts.Need-loop-less
 alternatives-end-loop-less t c = search needs
 
-alternatives-end-loop-again : (t : ℕ) → alternatives-end-lts.Need-loop-again (alternatives-end-claims t) (alternatives-end-at t) alternatives-end.Post alternatives-end-Inv-loop alternatives-end-μ-loop
+alternatives-end-loop-again : alternatives-end-need alternatives-end-lts.Need-loop-again
 alternatives-end-loop-again t c = search alts-go
 
-alternatives-end-returns-3 : (t : ℕ) → alternatives-end-lts.Need-returns-3 (alternatives-end-claims t) (alternatives-end-at t) alternatives-end.Post alternatives-end-Inv-loop alternatives-end-μ-loop
+alternatives-end-returns-3 : alternatives-end-need alternatives-end-lts.Need-returns-3
 alternatives-end-returns-3 t c = search alts-done
 
 abbrev fields-end-claims : ℕ → fields-end-lts.Claims
@@ -117,112 +120,121 @@ fields-end-Inv-loop ty at count groups left₀ place₀ left place = Run (types 
 abbrev fields-end-μ-loop : fields-end-lts.MeasureT-loop
 fields-end-μ-loop ty at count groups left₀ place₀ left place = left
 
-fields-end-loop-holds : (t : ℕ) → fields-end-lts.Need-loop-holds (fields-end-claims t) (fields-end-at t) fields-end.Post fields-end-Inv-loop fields-end-μ-loop
+abbrev fields-end-need : (fields-end-lts.Claims → In 1 fields-end-kinds.ps → Out 1 fields-end-kinds.ps fields-end-kinds.r → fields-end-lts.InvT-loop → fields-end-lts.MeasureT-loop → Type 0) → Type 0
+fields-end-need N = (t : ℕ) → N (fields-end-claims t) (fields-end-at t) fields-end.Post fields-end-Inv-loop fields-end-μ-loop
+
+fields-end-loop-holds : fields-end-need fields-end-lts.Need-loop-holds
 fields-end-loop-holds t c = search run-start
 
-fields-end-type-end-requires : (t : ℕ) → fields-end-lts.Need-type-end-requires (fields-end-claims t) (fields-end-at t) fields-end.Post fields-end-Inv-loop fields-end-μ-loop
+fields-end-type-end-requires : fields-end-need fields-end-lts.Need-type-end-requires
 fields-end-type-end-requires t c κs = (omega arith, tt)
 
-fields-end-returns : (t : ℕ) → fields-end-lts.Need-returns (fields-end-claims t) (fields-end-at t) fields-end.Post fields-end-Inv-loop fields-end-μ-loop
+fields-end-returns : fields-end-need fields-end-lts.Need-returns
 fields-end-returns t c = search fields-fail
 
-fields-end-sub-left : (t : ℕ) → fields-end-lts.Need-sub-left (fields-end-claims t) (fields-end-at t) fields-end.Post fields-end-Inv-loop fields-end-μ-loop
+fields-end-sub-left : fields-end-need fields-end-lts.Need-sub-left
 fields-end-sub-left t c = search needs
 
-fields-end-loop-less : (t : ℕ) → fields-end-lts.Need-loop-less (fields-end-claims t) (fields-end-at t) fields-end.Post fields-end-Inv-loop fields-end-μ-loop
+fields-end-loop-less : fields-end-need fields-end-lts.Need-loop-less
 fields-end-loop-less t c = search needs
 
-fields-end-loop-again : (t : ℕ) → fields-end-lts.Need-loop-again (fields-end-claims t) (fields-end-at t) fields-end.Post fields-end-Inv-loop fields-end-μ-loop
+fields-end-loop-again : fields-end-need fields-end-lts.Need-loop-again
 fields-end-loop-again t c = search fields-go
 
-fields-end-returns-2 : (t : ℕ) → fields-end-lts.Need-returns-2 (fields-end-claims t) (fields-end-at t) fields-end.Post fields-end-Inv-loop fields-end-μ-loop
+fields-end-returns-2 : fields-end-need fields-end-lts.Need-returns-2
 fields-end-returns-2 t c = search fields-done
 
 abbrev group-end-claims : ℕ → group-end-lts.Claims
 group-end-claims t = (fields-end-below t, fields-end.Post, alternatives-end-below t, alternatives-end.Post)
 
-group-end-returns : (t : ℕ) → group-end-lts.Need-returns (group-end-claims t) (group-end-at t) group-end.Post
+abbrev group-end-need : (group-end-lts.Claims → In 1 group-end-kinds.ps → Out 1 group-end-kinds.ps group-end-kinds.r → Type 0) → Type 0
+group-end-need N = (t : ℕ) → N (group-end-claims t) (group-end-at t) group-end.Post
+
+group-end-returns : group-end-need group-end-lts.Need-returns
 group-end-returns t c = search too-deep
 
-group-end-mul-kind : (t : ℕ) → group-end-lts.Need-mul-kind (group-end-claims t) (group-end-at t) group-end.Post
+group-end-mul-kind : group-end-need group-end-lts.Need-mul-kind
 group-end-mul-kind t c = search needs
 
-group-end-shared-slice-read-kind : (t : ℕ) → group-end-lts.Need-shared-slice-read-kind (group-end-claims t) (group-end-at t) group-end.Post
+group-end-shared-slice-read-kind : group-end-need group-end-lts.Need-shared-slice-read-kind
 group-end-shared-slice-read-kind t c = search needs
 
-group-end-add-count : (t : ℕ) → group-end-lts.Need-add-count (group-end-claims t) (group-end-at t) group-end.Post
+group-end-add-count : group-end-need group-end-lts.Need-add-count
 group-end-add-count t c = search needs
 
-group-end-mul-count : (t : ℕ) → group-end-lts.Need-mul-count (group-end-claims t) (group-end-at t) group-end.Post
+group-end-mul-count : group-end-need group-end-lts.Need-mul-count
 group-end-mul-count t c = search needs
 
-group-end-shared-slice-read-count : (t : ℕ) → group-end-lts.Need-shared-slice-read-count (group-end-claims t) (group-end-at t) group-end.Post
+group-end-shared-slice-read-count : group-end-need group-end-lts.Need-shared-slice-read-count
 group-end-shared-slice-read-count t c = search needs
 
-group-end-add-fields-end : (t : ℕ) → group-end-lts.Need-add-fields-end (group-end-claims t) (group-end-at t) group-end.Post
+group-end-add-fields-end : group-end-need group-end-lts.Need-add-fields-end
 group-end-add-fields-end t c = search needs
 
-group-end-sub-fields-end : (t : ℕ) → group-end-lts.Need-sub-fields-end (group-end-claims t) (group-end-at t) group-end.Post
+group-end-sub-fields-end : group-end-need group-end-lts.Need-sub-fields-end
 group-end-sub-fields-end t c = search needs
 
-group-end-fields-end-requires : (t : ℕ) → group-end-lts.Need-fields-end-requires (group-end-claims t) (group-end-at t) group-end.Post
+group-end-fields-end-requires : group-end-need group-end-lts.Need-fields-end-requires
 group-end-fields-end-requires t c κs = (omega arith, omega arith)
 
-group-end-returns-2 : (t : ℕ) → group-end-lts.Need-returns-2 (group-end-claims t) (group-end-at t) group-end.Post
+group-end-returns-2 : group-end-need group-end-lts.Need-returns-2
 group-end-returns-2 t c = search record-end
 
-group-end-add-alternatives-end : (t : ℕ) → group-end-lts.Need-add-alternatives-end (group-end-claims t) (group-end-at t) group-end.Post
+group-end-add-alternatives-end : group-end-need group-end-lts.Need-add-alternatives-end
 group-end-add-alternatives-end t c = search needs
 
-group-end-sub-alternatives-end : (t : ℕ) → group-end-lts.Need-sub-alternatives-end (group-end-claims t) (group-end-at t) group-end.Post
+group-end-sub-alternatives-end : group-end-need group-end-lts.Need-sub-alternatives-end
 group-end-sub-alternatives-end t c = search needs
 
-group-end-alternatives-end-requires : (t : ℕ) → group-end-lts.Need-alternatives-end-requires (group-end-claims t) (group-end-at t) group-end.Post
+group-end-alternatives-end-requires : group-end-need group-end-lts.Need-alternatives-end-requires
 group-end-alternatives-end-requires t c κs = (omega arith, omega arith)
 
-group-end-returns-3 : (t : ℕ) → group-end-lts.Need-returns-3 (group-end-claims t) (group-end-at t) group-end.Post
+group-end-returns-3 : group-end-need group-end-lts.Need-returns-3
 group-end-returns-3 t c = search union-end
 
-group-end-returns-4 : (t : ℕ) → group-end-lts.Need-returns-4 (group-end-claims t) (group-end-at t) group-end.Post
+group-end-returns-4 : group-end-need group-end-lts.Need-returns-4
 group-end-returns-4 t c = search unknown
 
 abbrev type-end-claims : ℕ → type-end-lts.Claims
 type-end-claims t = (group-end-below t, group-end.Post)
 
-type-end-returns : (t : ℕ) → type-end-lts.Need-returns (type-end-claims t) (type-end-at t) type-end.Post
+abbrev type-end-need : (type-end-lts.Claims → In 1 type-end-kinds.ps → Out 1 type-end-kinds.ps type-end-kinds.r → Type 0) → Type 0
+type-end-need N = (t : ℕ) → N (type-end-claims t) (type-end-at t) type-end.Post
+
+type-end-returns : type-end-need type-end-lts.Need-returns
 type-end-returns t c = search none-left
 
-type-end-mul-kind : (t : ℕ) → type-end-lts.Need-mul-kind (type-end-claims t) (type-end-at t) type-end.Post
+type-end-mul-kind : type-end-need type-end-lts.Need-mul-kind
 type-end-mul-kind t c = search needs
 
-type-end-shared-slice-read-kind : (t : ℕ) → type-end-lts.Need-shared-slice-read-kind (type-end-claims t) (type-end-at t) type-end.Post
+type-end-shared-slice-read-kind : type-end-need type-end-lts.Need-shared-slice-read-kind
 type-end-shared-slice-read-kind t c = search needs
 
-type-end-returns-2 : (t : ℕ) → type-end-lts.Need-returns-2 (type-end-claims t) (type-end-at t) type-end.Post
+type-end-returns-2 : type-end-need type-end-lts.Need-returns-2
 type-end-returns-2 t c = search zero-kind
 
-type-end-add-result : (t : ℕ) → type-end-lts.Need-add-result (type-end-claims t) (type-end-at t) type-end.Post
+type-end-add-result : type-end-need type-end-lts.Need-add-result
 type-end-add-result t c = search needs
 
-type-end-returns-3 : (t : ℕ) → type-end-lts.Need-returns-3 (type-end-claims t) (type-end-at t) type-end.Post
+type-end-returns-3 : type-end-need type-end-lts.Need-returns-3
 type-end-returns-3 t c = search scalar
 
-type-end-sub-if4 : (t : ℕ) → type-end-lts.Need-sub-if4 (type-end-claims t) (type-end-at t) type-end.Post
+type-end-sub-if4 : type-end-need type-end-lts.Need-sub-if4
 type-end-sub-if4 t c = search needs
 
-type-end-returns-4 : (t : ℕ) → type-end-lts.Need-returns-4 (type-end-claims t) (type-end-at t) type-end.Post
+type-end-returns-4 : type-end-need type-end-lts.Need-returns-4
 type-end-returns-4 t c = search short
 
-type-end-add-result-2 : (t : ℕ) → type-end-lts.Need-add-result-2 (type-end-claims t) (type-end-at t) type-end.Post
+type-end-add-result-2 : type-end-need type-end-lts.Need-add-result-2
 type-end-add-result-2 t c = search needs
 
-type-end-returns-5 : (t : ℕ) → type-end-lts.Need-returns-5 (type-end-claims t) (type-end-at t) type-end.Post
+type-end-returns-5 : type-end-need type-end-lts.Need-returns-5
 type-end-returns-5 t c = search reference
 
-type-end-group-end-requires : (t : ℕ) → type-end-lts.Need-group-end-requires (type-end-claims t) (type-end-at t) type-end.Post
+type-end-group-end-requires : type-end-need type-end-lts.Need-group-end-requires
 type-end-group-end-requires t c κs = (omega arith, (omega arith, omega arith))
 
-type-end-returns-6 : (t : ℕ) → type-end-lts.Need-returns-6 (type-end-claims t) (type-end-at t) type-end.Post
+type-end-returns-6 : type-end-need type-end-lts.Need-returns-6
 type-end-returns-6 t c = search needs
 
 pub +alternatives-end+fields-end+group-end+type-end-spec : {M : Type 1} → statement M
