@@ -12,17 +12,17 @@ use Rattle.format.proofs.KindLaws.{built, kindOf, is-made}
 use Rattle.format.proofs.SheetPlaces.{Span, taken}
 use Rattle.format.proofs.ValuePlaces.{ValueIn, ValuesIn, wordOf, kind-is, word-is, record-in, union-in, field-in}
 use Rattle.order.specs.declared.Walk.{Walk}
-use Rattle.order.specs.Compare.{code, rankOf, standing, Within, Says, One, Row}
+use Rattle.order.specs.Compare.{code, rankOf, standing, Within, Says, One, Row, CompareScalar, CompareValue, CompareFields}
 
 -- ---- orders and ranks
 
-pub code-eq : (o : Ordering) → code o ≡ 0 → o ≡ Ordering·eq
+code-eq : (o : Ordering) → code o ≡ 0 → o ≡ Ordering·eq
 code-eq Ordering·lt h = absurd (omega arith)
 code-eq Ordering·eq h = refl
 code-eq Ordering·gt h = absurd (omega arith)
 
-pub same-rank : (m n c : ℕ) → c ≡ code (compare m n) → c ≡ 0 → m ≡ n
-same-rank m n c k z = compare-eq m n (code-eq (compare m n) (sym k ∙ z))
+same-rank : {m n c l : ℕ} → n ≡ l → c ≡ code (compare m n) → c ≡ 0 → m ≡ l
+same-rank {m} {n} e k z = compare-eq m n (code-eq (compare m n) (sym k ∙ z)) ∙ e
 
 pub code-less : (x y : ℕ) → x < y → 1 ≡ code (compare x y)
 code-less x y h = ap code (sym (less h))
@@ -104,219 +104,258 @@ run-bytes b l p f n s k =
     let z : p + n - p ≡ length l = omega arith in
     ap (λ (m : ℕ). take m (drop p b)) z ∙ taken b p f l s .0
 
--- ---- a value
+-- ---- a value at its place
 
-module _ (wa pa wb pb : List ℕ) (i p j q : ℕ) where
-  abbrev This : Walk → Val → Val → Type 0
-  This r a b = (e f g h : ℕ) → ValueIn wa pa i p a e f → ValueIn wb pb j q b g h → Says (cmpVal a b) e f g h r
+module _ {w b : List ℕ} {i p : ℕ} {v : Val} {e f : ℕ} (s : ValueIn w b i p v e f) {k : ℕ} (h : k ≡ rankOf (getD w i 0)) where
+  rank-at : k ≡ rank v
+  rank-at = h ∙ ap rankOf (kind-is w b i p e f v s .1) ∙ rank-is v
 
-  -- no value stands past the end
-  pub gone-a : (r : Walk) → length wa ≤ i → One wa pa wb pb i p j q r
-  gone-a r l = record { one = λ a b e f g h s t. absurd (omega (arith, kind-is wa pa i p e f a s .0)) }
+  -- any value but Null has two words
+  second : (k ≡ 0x00 → ⊥) → (i + 1 < length w) × (getD w (i + 1) 0 ≡ wordOf v)
+  unfolding rankOf
+  second some = word-is w b i p e f v s (λ z. some (rank-at ∙ sym (rank-is v) ∙ ap rankOf z))
 
-  pub gone-b : (r : Walk) → length wb ≤ j → One wa pa wb pb i p j q r
-  gone-b r l = record { one = λ a b e f g h s t. absurd (omega (arith, kind-is wb pb j q g h b t .0)) }
+-- ---- two values of one rank
 
-  rank-a : (m : ℕ) → m ≡ rankOf (getD wa i 0) → (a : Val) (e f : ℕ) → ValueIn wa pa i p a e f → m ≡ rank a
-  rank-a m k a e f s = k ∙ ap rankOf (kind-is wa pa i p e f a s .1) ∙ rank-is a
+abbrev This : (wa pa wb pb : List ℕ) (i p j q : ℕ) → Walk → Val → Val → Type 0
+This wa pa wb pb i p j q r a b = (e f g h : ℕ) → ValueIn wa pa i p a e f → ValueIn wb pb j q b g h → Says (cmpVal a b) e f g h r
 
-  rank-b : (m : ℕ) → m ≡ rankOf (getD wb j 0) → (b : Val) (g h : ℕ) → ValueIn wb pb j q b g h → m ≡ rank b
-  rank-b m k b g h t = k ∙ ap rankOf (kind-is wb pb j q g h b t .1) ∙ rank-is b
-
-  pub apart : (m n : ℕ) → m ≡ rankOf (getD wa i 0) → n ≡ rankOf (getD wb j 0) → (c : ℕ) → c ≡ code (compare m n) → (c ≡ 0 → ⊥) → (r : Walk) → r .order ≡ c → One wa pa wb pb i p j q r
-  apart m n km kn c k z r e0 = record {
+module _ {wa pa wb pb : List ℕ} {i p j q k : ℕ} (ka : k ≡ rankOf (getD wa i 0)) (kb : k ≡ rankOf (getD wb j 0)) {r : Walk} where
+  on-rank : (m : ℕ) → k ≡ m → ((a b : Val) → This wa pa wb pb i p j q r (built (kindOf m) a) (built (kindOf m) b)) → One wa pa wb pb i p j q r
+  on-rank m z l = record {
     one = λ a b e f g h s t.
-        let o = by-rank a b in
-        let x : compare (rank a) (rank b) ≡ compare m n = sym (ap₂ compare (rank-a m km a e f s) (rank-b n kn b g h t)) in
-        let y : cmpVal a b ≡ compare m n = o .1 ∙ ap (λ (d : Ordering). then d (o .0)) x ∙ decided (compare m n) (o .0) (λ d. z (k ∙ d)) in
-        record { order = e0 ∙ k ∙ ap code (sym y); ends = λ d. absurd (z (sym e0 ∙ d)) };
+        let x = is-made a m (sym z ∙ rank-at s ka) in
+        let y = is-made b m (sym z ∙ rank-at t kb) in
+        subst (λ (v : Val). This wa pa wb pb i p j q r v b) (sym x) (subst (λ (u : Val). This wa pa wb pb i p j q r (built (kindOf m) a) u) (sym y) (l a b)) e f g h s t;
   }
 
-  module _ (m : ℕ) (km : m ≡ rankOf (getD wa i 0)) (kn : m ≡ rankOf (getD wb j 0)) where
-    on-rank : (k : ℕ) (r : Walk) → m ≡ k → ((a b : Val) → This r (built (kindOf k) a) (built (kindOf k) b)) → One wa pa wb pb i p j q r
-    on-rank k r z l = record {
-      one = λ a b e f g h s t.
-          let x = is-made a k (sym z ∙ rank-a m km a e f s) in
-          let y = is-made b k (sym z ∙ rank-b m kn b g h t) in
-          subst (λ (v : Val). This r v b) (sym x) (subst (λ (u : Val). This r (built (kindOf k) a) u) (sym y) (l a b)) e f g h s t;
-    }
+-- ---- two values that are no groups
 
-    pub null : m ≡ 0x00 → One wa pa wb pb i p j q (standing 0 (i + 1) p (j + 1) q)
+module _ {k : ℕ} (n0 : k ≡ 0x00 → ⊥) (n1 : k ≡ 0x22 → ⊥) (n2 : k ≡ 0x40 → ⊥) (n3 : k ≡ 0x51 → ⊥) (n4 : k ≡ 0x52 → ⊥) where
+  run-of : {v : Val} → k ≡ rank v → Run v
+  run-of {v} z = a-run-by v (λ h. n0 (z ∙ h)) (λ h. n1 (z ∙ h)) (λ h. n2 (z ∙ h)) (λ h. n3 (z ∙ h)) (λ h. n4 (z ∙ h)) v refl
+
+  bytewise : (v u : Val) → k ≡ rank v → k ≡ rank u → cmpVal v u ≡ cmpBytes (runIn v) (runIn u)
+  bytewise v u z w = bytewise-by v (λ h. n0 (z ∙ h)) (λ h. n1 (z ∙ h)) (λ h. n2 (z ∙ h)) (λ h. n3 (z ∙ h)) (λ h. n4 (z ∙ h)) v u refl (sym z ∙ w)
+
+-- in whatever words they stand, r says how they compare
+abbrev Anywhere : (pa pb : List ℕ) (s : Walk) (k x y : ℕ) → Walk → Type 0
+Anywhere pa pb s k x y r = (wa wb : List ℕ) → k ≡ rankOf (getD wa (s .i) 0) → k ≡ rankOf (getD wb (s .j) 0) → x ≡ getD wa (s .i + 1) 0 → y ≡ getD wb (s .j + 1) 0
+    → (k ≡ 0x00 → ⊥) → (k ≡ 0x22 → ⊥) → (k ≡ 0x52 → ⊥) → One wa pa wb pb (s .i) (s .p) (s .j) (s .q) r
+
+-- such values end at most two words on
+walked : {pa pb : List ℕ} {s : Walk} {k x y c m e n f : ℕ} {r : Walk} → r ≡ standing c m e n f → s .i ≤ m → m ≤ s .i + 2 → e ≤ length pa → n ≤ s .j + 2 → f ≤ length pb → Anywhere pa pb s k x y (standing c m e n f) → CompareScalar pa pb s k x y r
+walked at on in-wa in-pa in-wb in-pb says = rw at (record { on = on; in-wa = in-wa; in-pa = in-pa; in-wb = in-wb; in-pb = in-pb; says = says })
+
+module _ {pa pb : List ℕ} {s : Walk} {k x y : ℕ} (in-pa : s .p ≤ length pa) (in-pb : s .q ≤ length pb) where
+  module _ {c : ℕ} {r : Walk} (e : r ≡ standing c (s .i + 2) (s .p) (s .j + 2) (s .q)) where
+    pub an-int : k ≡ 0x40 → {m n : ℕ} → m ≡ offset x → n ≡ offset y → c ≡ code (compare m n) → CompareScalar pa pb s k x y r
     unfolding built kindOf cmpVal valWords valPool
-    null z = on-rank 0x00 _ z (λ a b e f g h s t. record {
-      order = refl;
-      ends = λ o. record { at-i = omega (arith, s .words .long); at-p = omega (arith, s .pool .long); at-j = omega (arith, t .words .long); at-q = omega (arith, t .pool .long) };
+    an-int z xm yn o = walked e (omega arith) (omega arith) in-pa (omega arith) in-pb (λ wa wb ka kb kx ky n0 n1 n4. on-rank ka kb 0x40 z (λ a b e f g h u v. record {
+      order = o ∙ ap₂ (λ (m n : ℕ). code (compare m n)) (xm ∙ ap offset (kx ∙ second u ka n0 .1)) (yn ∙ ap offset (ky ∙ second v kb n0 .1));
+      ends = λ o. record { at-i = omega (arith, u .words .long); at-p = omega (arith, u .pool .long); at-j = omega (arith, v .words .long); at-q = omega (arith, v .pool .long) };
+    }))
+
+    pub a-ref : k ≡ 0x51 → c ≡ code (compare x y) → CompareScalar pa pb s k x y r
+    unfolding built kindOf cmpVal valWords valPool
+    a-ref z o = walked e (omega arith) (omega arith) in-pa (omega arith) in-pb (λ wa wb ka kb kx ky n0 n1 n4. on-rank ka kb 0x51 z (λ a b e f g h u v. record {
+      order = o ∙ ap₂ (λ (m n : ℕ). code (compare m n)) (kx ∙ second u ka n0 .1) (ky ∙ second v kb n0 .1);
+      ends = λ o. record { at-i = omega (arith, u .words .long); at-p = omega (arith, u .pool .long); at-j = omega (arith, v .words .long); at-q = omega (arith, v .pool .long) };
+    }))
+
+  module _ (n2 : k ≡ 0x40 → ⊥) (n3 : k ≡ 0x51 → ⊥) where
+    pub long-a : length pa - s .p < x → CompareScalar pa pb s k x y s
+    long-a l = walked refl (omega arith) (omega arith) in-pa (omega arith) in-pb (λ wa wb ka kb kx ky n0 n1 n4. record {
+      one = λ a b e f g h u v.
+          let o = run-of n0 n1 n2 n3 n4 {v = a} (rank-at u ka) in
+          absurd (omega (arith, u .pool .long, u .pool .within, ap length (o .bytes), o .word, kx, second u ka n0 .1));
     })
 
-    module _ (some : m ≡ 0x00 → ⊥) where
-      -- any value but Null has two words
-      second-a : (a : Val) (e f : ℕ) → ValueIn wa pa i p a e f → (i + 1 < length wa) × (getD wa (i + 1) 0 ≡ wordOf a)
-      unfolding rankOf
-      second-a a e f s = word-is wa pa i p e f a s (λ z. some (rank-a m km a e f s ∙ sym (rank-is a) ∙ ap rankOf z))
+    pub long-b : length pb - s .q < y → CompareScalar pa pb s k x y s
+    long-b l = walked refl (omega arith) (omega arith) in-pa (omega arith) in-pb (λ wa wb ka kb kx ky n0 n1 n4. record {
+      one = λ a b e f g h u v.
+          let o = run-of n0 n1 n2 n3 n4 {v = b} (rank-at v kb) in
+          absurd (omega (arith, v .pool .long, v .pool .within, ap length (o .bytes), o .word, ky, second v kb n0 .1));
+    })
 
-      second-b : (b : Val) (g h : ℕ) → ValueIn wb pb j q b g h → (j + 1 < length wb) × (getD wb (j + 1) 0 ≡ wordOf b)
-      unfolding rankOf
-      second-b b g h t = word-is wb pb j q g h b t (λ z. some (rank-b m kn b g h t ∙ sym (rank-is b) ∙ ap rankOf z))
+    pub a-run : x ≤ length pa - s .p → y ≤ length pb - s .q → {c : ℕ} → c ≡ code (cmpBytes (take (s .p + x - s .p) (drop (s .p) pa)) (take (s .q + y - s .q) (drop (s .q) pb)))
+        → {r : Walk} → r ≡ standing c (s .i + 2) (s .p + x) (s .j + 2) (s .q + y) → CompareScalar pa pb s k x y r
+    a-run la lb o e = walked e (omega arith) (omega arith) (omega (arith, la)) (omega arith) (omega (arith, lb)) (λ wa wb ka kb kx ky n0 n1 n4. record {
+      one = λ a b e f g h u v.
+          let ra = rank-at u ka in
+          let rb = rank-at v kb in
+          let m = run-of n0 n1 n2 n3 n4 ra in
+          let n = run-of n0 n1 n2 n3 n4 rb in
+          let lx : x ≡ length (valPool a) = kx ∙ second u ka n0 .1 ∙ m .word ∙ ap length (sym (m .bytes)) in
+          let ly : y ≡ length (valPool b) = ky ∙ second v kb n0 .1 ∙ n .word ∙ ap length (sym (n .bytes)) in
+          let oa = run-bytes pa (valPool a) (s .p) f x (u .pool) lx ∙ m .bytes in
+          let ob = run-bytes pb (valPool b) (s .q) h y (v .pool) ly ∙ n .bytes in
+          record {
+            order = o ∙ ap₂ (λ (l n : List ℕ). code (cmpBytes l n)) oa ob ∙ ap code (sym (bytewise n0 n1 n2 n3 n4 a b ra rb));
+            ends = λ o. record { at-i = omega (arith, u .words .long, m .two); at-p = omega (arith, u .pool .long); at-j = omega (arith, v .words .long, n .two); at-q = omega (arith, v .pool .long) };
+          };
+    })
 
-      pub short-a : (r : Walk) → length wa - i < 2 → One wa pa wb pb i p j q r
-      short-a r l = record { one = λ a b e f g h s t. absurd (omega (arith, second-a a e f s .0)) }
+-- ---- two values
 
-      pub short-b : (r : Walk) → length wb - j < 2 → One wa pa wb pb i p j q r
-      short-b r l = record { one = λ a b e f g h s t. absurd (omega (arith, second-b b g h t .0)) }
+-- the same places, with another order
+abbrev staying : ℕ → Walk → Walk
+staying c s = standing c (s .i) (s .p) (s .j) (s .q)
 
-      module _ (x y : ℕ) (kx : x ≡ getD wa (i + 1) 0) (ky : y ≡ getD wb (j + 1) 0) where
-        word-a : (a : Val) (e f : ℕ) → ValueIn wa pa i p a e f → x ≡ wordOf a
-        word-a a e f s = kx ∙ second-a a e f s .1
+same-places : {wa pa wb pb : List ℕ} {s : Walk} → Within wa pa wb pb s → (c : ℕ) → Within wa pa wb pb (staying c s)
+same-places w c = record { in-wa = w .in-wa; in-pa = w .in-pa; in-wb = w .in-wb; in-pb = w .in-pb }
 
-        word-b : (b : Val) (g h : ℕ) → ValueIn wb pb j q b g h → y ≡ wordOf b
-        word-b b g h t = ky ∙ second-b b g h t .1
+module _ {wa pa wb pb : List ℕ} {s : Walk} (w : Within wa pa wb pb s) where
+  stays : {c : ℕ} {r : Walk} → r ≡ staying c s → One wa pa wb pb (s .i) (s .p) (s .j) (s .q) (staying c s) → CompareValue wa pa wb pb s r
+  stays {c} e o = rw e (record { on = omega arith; within = same-places w c; says = o })
 
-        -- ---- values that are no groups
+  -- no value stands past the end
+  pub gone-a : length wa ≤ s .i → CompareValue wa pa wb pb s s
+  gone-a l = stays refl (record { one = λ a b e f g h u v. absurd (omega (arith, kind-is wa pa (s .i) (s .p) e f a u .0)) })
 
-        pub an-int : m ≡ 0x40 → (c : ℕ) → c ≡ code (compare (offset x) (offset y)) → One wa pa wb pb i p j q (standing c (i + 2) p (j + 2) q)
-        unfolding built kindOf cmpVal valWords valPool
-        an-int z c k = on-rank 0x40 _ z (λ a b e f g h s t. record {
-          order = k ∙ ap₂ (λ (u v : ℕ). code (compare (offset u) (offset v))) (word-a (Val.Int (numberIn a)) e f s) (word-b (Val.Int (numberIn b)) g h t);
-          ends = λ o. record { at-i = omega (arith, s .words .long); at-p = omega (arith, s .pool .long); at-j = omega (arith, t .words .long); at-q = omega (arith, t .pool .long) };
-        })
+  pub gone-b : length wb ≤ s .j → CompareValue wa pa wb pb s s
+  gone-b l = stays refl (record { one = λ a b e f g h u v. absurd (omega (arith, kind-is wb pb (s .j) (s .q) g h b v .0)) })
 
-        pub a-ref : m ≡ 0x51 → (c : ℕ) → c ≡ code (compare x y) → One wa pa wb pb i p j q (standing c (i + 2) p (j + 2) q)
-        unfolding built kindOf cmpVal valWords valPool
-        a-ref z c k = on-rank 0x51 _ z (λ a b e f g h s t. record {
-          order = k ∙ ap₂ (λ (u v : ℕ). code (compare u v)) (word-a (Val.Ref (numberIn a)) e f s) (word-b (Val.Ref (numberIn b)) g h t);
-          ends = λ o. record { at-i = omega (arith, s .words .long); at-p = omega (arith, s .pool .long); at-j = omega (arith, t .words .long); at-q = omega (arith, t .pool .long) };
-        })
+  module _ {k n c : ℕ} (ka : k ≡ rankOf (getD wa (s .i) 0)) (kn : n ≡ rankOf (getD wb (s .j) 0)) (kc : c ≡ code (compare k n)) where
+    pub apart : (c ≡ 0 → ⊥) → {r : Walk} → r ≡ staying c s → CompareValue wa pa wb pb s r
+    apart z e = stays e (record {
+      one = λ a b e f g h u v.
+          let o = by-rank a b in
+          let x : compare (rank a) (rank b) ≡ compare k n = sym (ap₂ compare (rank-at u ka) (rank-at v kn)) in
+          let y : cmpVal a b ≡ compare k n = o .1 ∙ ap (λ (d : Ordering). then d (o .0)) x ∙ decided (compare k n) (o .0) (λ d. z (kc ∙ d)) in
+          record { order = kc ∙ ap code (sym y); ends = λ d. absurd (z d) };
+    })
 
-        module _ (n1 : m ≡ 0x22 → ⊥) (n2 : m ≡ 0x40 → ⊥) (n3 : m ≡ 0x51 → ⊥) (n4 : m ≡ 0x52 → ⊥) where
-          run-of : (v : Val) → m ≡ rank v → Run v
-          run-of v z = a-run-by v (λ k. some (z ∙ k)) (λ k. n1 (z ∙ k)) (λ k. n2 (z ∙ k)) (λ k. n3 (z ∙ k)) (λ k. n4 (z ∙ k)) v refl
+    module _ (z : c ≡ 0) where
+      pub null : s .i < length wa → s .j < length wb → k ≡ 0x00 → {r : Walk} → r ≡ standing 0 (s .i + 1) (s .p) (s .j + 1) (s .q) → CompareValue wa pa wb pb s r
+      unfolding built kindOf cmpVal valWords valPool
+      null la lb y e = rw e (record {
+        on = omega arith;
+        within = record { in-wa = omega (arith, la); in-pa = w .in-pa; in-wb = omega (arith, lb); in-pb = w .in-pb };
+        says = on-rank ka (same-rank kn kc z) 0x00 y (λ a b e f g h u v. record {
+          order = refl;
+          ends = λ o. record { at-i = omega (arith, u .words .long); at-p = omega (arith, u .pool .long); at-j = omega (arith, v .words .long); at-q = omega (arith, v .pool .long) };
+        });
+      })
 
-          bytewise : (v u : Val) → m ≡ rank v → m ≡ rank u → cmpVal v u ≡ cmpBytes (runIn v) (runIn u)
-          bytewise v u z w = bytewise-by v (λ k. some (z ∙ k)) (λ k. n1 (z ∙ k)) (λ k. n2 (z ∙ k)) (λ k. n3 (z ∙ k)) (λ k. n4 (z ∙ k)) v u refl (sym z ∙ w)
+      module _ (some : k ≡ 0x00 → ⊥) where
+        pub short-a : length wa - s .i < 2 → CompareValue wa pa wb pb s s
+        short-a l = stays refl (record { one = λ a b e f g h u v. absurd (omega (arith, second u ka some .0)) })
 
-          pub long-a : (r : Walk) → length pa - p < x → One wa pa wb pb i p j q r
-          long-a r l = record {
-            one = λ a b e f g h s t.
-                let u = run-of a (rank-a m km a e f s) in
-                absurd (omega (arith, s .pool .long, s .pool .within, ap length (u .bytes), u .word, word-a a e f s));
-          }
+        pub short-b : length wb - s .j < 2 → CompareValue wa pa wb pb s s
+        short-b l = stays refl (record { one = λ a b e f g h u v. absurd (omega (arith, second v (same-rank kn kc z) some .0)) })
 
-          pub long-b : (r : Walk) → length pb - q < y → One wa pa wb pb i p j q r
-          long-b r l = record {
-            one = λ a b e f g h s t.
-                let u = run-of b (rank-b m kn b g h t) in
-                absurd (omega (arith, t .pool .long, t .pool .within, ap length (u .bytes), u .word, word-b b g h t));
-          }
+        pub a-scalar : {r : Walk} → CompareScalar pa pb s k (getD wa (s .i + 1) 0) (getD wb (s .j + 1) 0) r → 2 ≤ length wa - s .i → 2 ≤ length wb - s .j → (k ≡ 0x22 → ⊥) → (k ≡ 0x52 → ⊥)
+            → CompareValue wa pa wb pb s r
+        a-scalar f la lb n1 n4 = record {
+          on = f .on;
+          within = record { in-wa = omega (arith, f .in-wa, w .in-wa, la); in-pa = f .in-pa; in-wb = omega (arith, f .in-wb, w .in-wb, lb); in-pb = f .in-pb };
+          says = f .says wa wb ka (same-rank kn kc z) refl refl some n1 n4;
+        }
 
-          pub a-run : (c : ℕ) → c ≡ code (cmpBytes (take (p + x - p) (drop p pa)) (take (q + y - q) (drop q pb))) → One wa pa wb pb i p j q (standing c (i + 2) (p + x) (j + 2) (q + y))
-          a-run c k = record {
-            one = λ a b e f g h s t.
-                let ra = rank-a m km a e f s in
-                let rb = rank-b m kn b g h t in
-                let u = run-of a ra in
-                let v = run-of b rb in
-                let lx : x ≡ length (valPool a) = word-a a e f s ∙ u .word ∙ ap length (sym (u .bytes)) in
-                let ly : y ≡ length (valPool b) = word-b b g h t ∙ v .word ∙ ap length (sym (v .bytes)) in
-                let oa = run-bytes pa (valPool a) p f x (s .pool) lx ∙ u .bytes in
-                let ob = run-bytes pb (valPool b) q h y (t .pool) ly ∙ v .bytes in
-                record {
-                  order = k ∙ ap₂ (λ (l n : List ℕ). code (cmpBytes l n)) oa ob ∙ ap code (sym (bytewise a b ra rb));
-                  ends = λ o. record { at-i = omega (arith, s .words .long, u .two); at-p = omega (arith, s .pool .long); at-j = omega (arith, t .words .long, v .two); at-q = omega (arith, t .pool .long) };
-                };
-          }
-
-        -- ---- groups
-
-        pub a-record : m ≡ 0x22 → (r : Walk) → Row wa pa wb pb x y (i + 2) p (j + 2) q r → One wa pa wb pb i p j q r
+        pub tags-apart : k ≡ 0x52 → {d : ℕ} → d ≡ code (compare (getD wa (s .i + 1) 0) (getD wb (s .j + 1) 0)) → (d ≡ 0 → ⊥) → {r : Walk} → r ≡ staying d s → CompareValue wa pa wb pb s r
         unfolding built kindOf cmpVal
-        a-record z r l = on-rank 0x22 r z (λ a b e f g h s t.
-            let vs = fieldsIn a in
-            let us = fieldsIn b in
-            l .row vs us e f g h (word-a (Val.Record vs) e f s) (word-b (Val.Record us) g h t) (record-in wa pa i p e f vs s) (record-in wb pb j q g h us t))
+        tags-apart y kd x e = stays e (on-rank ka (same-rank kn kc z) 0x52 y (λ a b e f g h u v.
+            let o = ap₂ compare (second u ka some .1) (second v (same-rank kn kc z) some .1) in
+            let l = decided (compare (numberIn a) (numberIn b)) (cmpVal (payloadIn a) (payloadIn b)) (λ n. x (kd ∙ ap code o ∙ n)) in
+            record { order = kd ∙ ap code (o ∙ sym l); ends = λ n. absurd (x n) }))
 
-        pub tags-apart : m ≡ 0x52 → (c : ℕ) → c ≡ code (compare x y) → (c ≡ 0 → ⊥) → (r : Walk) → r .order ≡ c → One wa pa wb pb i p j q r
-        unfolding built kindOf cmpVal
-        tags-apart z c k d r e0 = on-rank 0x52 r z (λ a b e f g h s t.
-            let v = payloadIn a in
-            let u = payloadIn b in
-            let o : compare x y ≡ compare (numberIn a) (numberIn b) = ap₂ compare (word-a (Val.Union (numberIn a) v) e f s) (word-b (Val.Union (numberIn b) u) g h t) in
-            let w = decided (compare (numberIn a) (numberIn b)) (cmpVal v u) (λ n. d (k ∙ ap code o ∙ n)) in
-            record { order = e0 ∙ k ∙ ap code (o ∙ sym w); ends = λ n. absurd (d (sym e0 ∙ n)) })
+-- ---- two groups
 
-        pub a-union : m ≡ 0x52 → (c : ℕ) → c ≡ code (compare x y) → c ≡ 0 → (r : Walk) → One wa pa wb pb (i + 2) p (j + 2) q r → One wa pa wb pb i p j q r
-        unfolding built kindOf cmpVal
-        a-union z c k d r l = on-rank 0x52 r z (λ a b e f g h s t.
-            let v = payloadIn a in
-            let u = payloadIn b in
-            let o : compare (numberIn a) (numberIn b) ≡ Ordering·eq = sym (ap₂ compare (word-a (Val.Union (numberIn a) v) e f s) (word-b (Val.Union (numberIn b) u) g h t)) ∙ code-eq (compare x y) (sym k ∙ d) in
-            rw o (l .one v u e f g h (union-in wa pa i p e f (numberIn a) v s) (union-in wb pb j q g h (numberIn b) u t)))
+module _ {wa pa wb pb : List ℕ} {s : Walk} {k n c : ℕ} (ka : k ≡ rankOf (getD wa (s .i) 0)) (kn : n ≡ rankOf (getD wb (s .j) 0)) (kc : c ≡ code (compare k n)) (z : c ≡ 0) (some : k ≡ 0x00 → ⊥) where
+  pub a-record : {r fields : Walk} → CompareFields wa pa wb pb fields (getD wa (s .i + 1) 0) (getD wb (s .j + 1) 0) r → fields ≡ standing 0 (s .i + 2) (s .p) (s .j + 2) (s .q) → k ≡ 0x22 → CompareValue wa pa wb pb s r
+  unfolding built kindOf cmpVal
+  a-record l e y =
+      let m = rw e at l in
+      record {
+        on = omega (arith, m .on);
+        within = m .within;
+        says = on-rank ka (same-rank kn kc z) 0x22 y (λ a b e f g h u v.
+            let us = fieldsIn a in
+            let vs = fieldsIn b in
+            m .says .row us vs e f g h (second u ka some .1) (second v (same-rank kn kc z) some .1) (record-in wa pa (s .i) (s .p) e f us u) (record-in wb pb (s .j) (s .q) g h vs v));
+      }
+
+  pub a-union : {r payload : Walk} → CompareValue wa pa wb pb payload r → payload ≡ standing 0 (s .i + 2) (s .p) (s .j + 2) (s .q) → k ≡ 0x52
+      → {d : ℕ} → d ≡ code (compare (getD wa (s .i + 1) 0) (getD wb (s .j + 1) 0)) → d ≡ 0 → CompareValue wa pa wb pb s r
+  unfolding built kindOf cmpVal
+  a-union l e y kd x =
+      let m = rw e at l in
+      record {
+        on = omega (arith, m .on);
+        within = m .within;
+        says = on-rank ka (same-rank kn kc z) 0x52 y (λ a b e f g h u v.
+            let o : compare (numberIn a) (numberIn b) ≡ Ordering·eq = sym (ap₂ compare (second u ka some .1) (second v (same-rank kn kc z) some .1)) ∙ code-eq _ (sym kd ∙ x) in
+            rw o (m .says .one (payloadIn a) (payloadIn b) e f g h (union-in wa pa (s .i) (s .p) e f (numberIn a) (payloadIn a) u) (union-in wb pb (s .j) (s .q) g h (numberIn b) (payloadIn b) v)));
+      }
 
 -- ---- fields one after another
 
-module _ (wa pa wb pb : List ℕ) (m n i p j q : ℕ) where
-  abbrev These : Walk → Vals → Vals → Type 0
-  These r vs us = (e f g h : ℕ) → m ≡ valCount vs → n ≡ valCount us → ValuesIn wa pa i p vs e f → ValuesIn wb pb j q us g h → Says (cmpVals vs us) e f g h r
+-- the loop over the fields: what the rest says, it says of the whole
+pub record Walking (wa pa wb pb : List ℕ) (x y : ℕ) (s : Walk) (m n : ℕ) (here : Walk) : Type 0 where
+  pub on : s .i ≤ here .i
+  pub within : Within wa pa wb pb here
+  pub so-far : (e : Walk) → Row wa pa wb pb m n (here .i) (here .p) (here .j) (here .q) e → Row wa pa wb pb x y (s .i) (s .p) (s .j) (s .q) e
 
-  pub row-none : m ≡ 0 → n ≡ 0 → Row wa pa wb pb m n i p j q (standing 0 i p j q)
+module _ {wa pa wb pb : List ℕ} {x y : ℕ} {s : Walk} {m n : ℕ} {here : Walk} (w : Walking wa pa wb pb x y s m n here) where
+  abbrev These : Walk → Vals → Vals → Type 0
+  These r vs us = (e f g h : ℕ) → m ≡ valCount vs → n ≡ valCount us → ValuesIn wa pa (here .i) (here .p) vs e f → ValuesIn wb pb (here .j) (here .q) us g h → Says (cmpVals vs us) e f g h r
+
+  ends-here : {c : ℕ} {r : Walk} → r ≡ staying c here → ((vs us : Vals) → These (staying c here) vs us) → CompareFields wa pa wb pb s x y r
+  ends-here {c} e go = rw e (record { on = w .on; within = same-places (w .within) c; says = w .so-far _ (record { row = go }) })
+
+  pub row-none : {r : Walk} → r ≡ staying 0 here → m ≡ 0 → n ≡ 0 → CompareFields wa pa wb pb s x y r
   unfolding cmpVal valCount valWords valPool
-  row-none y z = record { row = go }
+  row-none at y z = ends-here at go
     where
-      go : (vs us : Vals) → These (standing 0 i p j q) vs us
+      go : (vs us : Vals) → These (staying 0 here) vs us
       go Vals.NoVal Vals.NoVal e f g h k l s t =
           record { order = refl; ends = λ o. record { at-i = omega (arith, s .words .long); at-p = omega (arith, s .pool .long); at-j = omega (arith, t .words .long); at-q = omega (arith, t .pool .long) } }
       go Vals.NoVal (Vals.AddVal u us) e f g h k l s t = absurd (omega arith)
       go (Vals.AddVal v vs) us e f g h k l s t = absurd (omega arith)
 
-  pub row-less : m ≡ 0 → (n ≡ 0 → ⊥) → (r : Walk) → r .order ≡ 1 → Row wa pa wb pb m n i p j q r
+  pub row-less : {r : Walk} → r ≡ staying 1 here → m ≡ 0 → (n ≡ 0 → ⊥) → CompareFields wa pa wb pb s x y r
   unfolding cmpVal valCount
-  row-less y z r e0 = record { row = go }
+  row-less at y z = ends-here at go
     where
-      go : (vs us : Vals) → These r vs us
+      go : (vs us : Vals) → These (staying 1 here) vs us
       go Vals.NoVal Vals.NoVal e f g h k l s t = absurd (z l)
-      go Vals.NoVal (Vals.AddVal u us) e f g h k l s t = record { order = e0; ends = λ o. absurd (omega arith) }
+      go Vals.NoVal (Vals.AddVal u us) e f g h k l s t = record { order = refl; ends = λ o. absurd (omega arith) }
       go (Vals.AddVal v vs) us e f g h k l s t = absurd (omega arith)
 
-  pub row-greater : (m ≡ 0 → ⊥) → n ≡ 0 → (r : Walk) → r .order ≡ 2 → Row wa pa wb pb m n i p j q r
+  pub row-greater : {r : Walk} → r ≡ staying 2 here → (m ≡ 0 → ⊥) → n ≡ 0 → CompareFields wa pa wb pb s x y r
   unfolding cmpVal valCount
-  row-greater y z r e0 = record { row = go }
+  row-greater at y z = ends-here at go
     where
-      go : (vs us : Vals) → These r vs us
+      go : (vs us : Vals) → These (staying 2 here) vs us
       go Vals.NoVal us e f g h k l s t = absurd (y k)
-      go (Vals.AddVal v vs) Vals.NoVal e f g h k l s t = record { order = e0; ends = λ o. absurd (omega arith) }
+      go (Vals.AddVal v vs) Vals.NoVal e f g h k l s t = record { order = refl; ends = λ o. absurd (omega arith) }
       go (Vals.AddVal v vs) (Vals.AddVal u us) e f g h k l s t = absurd (omega arith)
 
-  module _ (y : m ≡ 0 → ⊥) (z : n ≡ 0 → ⊥) (first : Walk) (right : One wa pa wb pb i p j q first) where
-    pub row-apart : (first .order ≡ 0 → ⊥) → Row wa pa wb pb m n i p j q first
+  module _ (some : m ≡ 0 → ⊥) (others : n ≡ 0 → ⊥) {first : Walk} (right : CompareValue wa pa wb pb here first) where
+    pub row-apart : (first .order ≡ 0 → ⊥) → CompareFields wa pa wb pb s x y first
     unfolding cmpVal valCount
-    row-apart d = record { row = go }
+    row-apart d = record { on = omega (arith, w .on, right .on); within = right .within; says = w .so-far _ (record { row = go }) }
       where
         go : (vs us : Vals) → These first vs us
-        go Vals.NoVal us e f g h k l s t = absurd (y k)
-        go (Vals.AddVal v vs) Vals.NoVal e f g h k l s t = absurd (z l)
+        go Vals.NoVal us e f g h k l s t = absurd (some k)
+        go (Vals.AddVal v vs) Vals.NoVal e f g h k l s t = absurd (others l)
         go (Vals.AddVal v vs) (Vals.AddVal u us) e f g h k l s t =
-            let o = right .one v u _ _ _ _ (field-in wa pa i p e f v vs s .0) (field-in wb pb j q g h u us t .0) in
+            let o = right .says .one v u _ _ _ _ (field-in wa pa (here .i) (here .p) e f v vs s .0) (field-in wb pb (here .j) (here .q) g h u us t .0) in
             let w = decided (cmpVal v u) (cmpVals vs us) (λ c. d (o .order ∙ c)) in
             record { order = o .order ∙ ap code (sym w); ends = λ c. absurd (d c) }
 
-    pub row-next : first .order ≡ 0 → (r : Walk) → Row wa pa wb pb (m - 1) (n - 1) (first .i) (first .p) (first .j) (first .q) r → Row wa pa wb pb m n i p j q r
+    pub row-next : first .order ≡ 0 → Walking wa pa wb pb x y s (m - 1) (n - 1) first
     unfolding cmpVal valCount
-    row-next d r rest = record { row = go }
+    row-next d = record { on = omega (arith, w .on, right .on); within = right .within; so-far = λ r rest. w .so-far r (record { row = go r rest }) }
       where
-        go : (vs us : Vals) → These r vs us
-        go Vals.NoVal us e f g h k l s t = absurd (y k)
-        go (Vals.AddVal v vs) Vals.NoVal e f g h k l s t = absurd (z l)
-        go (Vals.AddVal v vs) (Vals.AddVal u us) e f g h k l s t =
-            let x = field-in wa pa i p e f v vs s in
-            let w = field-in wb pb j q g h u us t in
-            let o = right .one v u _ _ _ _ (x .0) (w .0) in
+        go : (r : Walk) → Row wa pa wb pb (m - 1) (n - 1) (first .i) (first .p) (first .j) (first .q) r → (vs us : Vals) → These r vs us
+        go r rest Vals.NoVal us e f g h k l s t = absurd (some k)
+        go r rest (Vals.AddVal v vs) Vals.NoVal e f g h k l s t = absurd (others l)
+        go r rest (Vals.AddVal v vs) (Vals.AddVal u us) e f g h k l s t =
+            let x = field-in wa pa (here .i) (here .p) e f v vs s in
+            let w = field-in wb pb (here .j) (here .q) g h u us t in
+            let o = right .says .one v u _ _ _ _ (x .0) (w .0) in
             let c = o .ends d in
             rw (code-eq (cmpVal v u) (sym (o .order) ∙ d))
             (rest .row vs us e f g h (omega arith) (omega arith) (rw (c .at-i, c .at-p) (x .1)) (rw (c .at-j, c .at-q) (w .1)))
-
--- ---- the loop over the fields
-
--- what the rest says, it says of the whole
-pub record Walking (wa pa wb pb : List ℕ) (x y : ℕ) (s : Walk) (m n : ℕ) (here : Walk) : Type 0 where
-  pub on : s .i ≤ here .i
-  pub within : Within wa pa wb pb here
-  pub so-far : (e : Walk) → Row wa pa wb pb m n (here .i) (here .p) (here .j) (here .q) e → Row wa pa wb pb x y (s .i) (s .p) (s .j) (s .q) e

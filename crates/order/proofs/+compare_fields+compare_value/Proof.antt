@@ -1,7 +1,5 @@
 -- Both go down with the words left of the first value. The fields' invariant: what was passed is equal, so what is left decides.
-use mathlib.Core.Path.{refl, _∙_}
 use Prim.Native.Nat.{ℕ, _+_, _-_, _*_, _<_}
-use native.Mathlib.Omega.{arith}
 use lib.ListN.{length}
 use borrow.Author.Needs.{needs}
 use borrow.Fn.Kinds.{In, Out}
@@ -58,82 +56,25 @@ compare-fields-stand-requires : compare-fields-need compare-fields-lts.Need-stan
 compare-fields-stand-requires t c κs = search needs
 
 compare-fields-returns : compare-fields-need compare-fields-lts.Need-returns
-compare-fields-returns t c =
-    let c3 = c .before .before .before in
-    let s = c3 .before .before .before .before .before in
-    let a = s .args in
-    let l = c3 .loop in
-    let i = l .inv in
-    let w = i .within in
-    rw (c .stand .ensures) (record {
-      on = i .on;
-      within = record { in-wa = w .in-wa; in-pa = w .in-pa; in-wb = w .in-wb; in-pb = w .in-pb };
-      says = i .so-far _
-          (laws.row-none (a .wa .now) (a .pa .now) (a .wb .now) (a .pb .now) (l .m) (l .n) (l .here .i) (l .here .p) (l .here .j) (l .here .q) (c .before .before .if1 .taken) (c .before .if2 .taken));
-    })
+compare-fields-returns t c = search laws.row-none
 
 compare-fields-stand-requires-2 : compare-fields-need compare-fields-lts.Need-stand-requires-2
 compare-fields-stand-requires-2 t c κs = search needs
 
 compare-fields-returns-2 : compare-fields-need compare-fields-lts.Need-returns-2
-compare-fields-returns-2 t c =
-    let c3 = c .before .before .before in
-    let s = c3 .before .before .before .before .before in
-    let a = s .args in
-    let l = c3 .loop in
-    let i = l .inv in
-    let w = i .within in
-    rw (c .stand2 .ensures) (record {
-      on = i .on;
-      within = record { in-wa = w .in-wa; in-pa = w .in-pa; in-wb = w .in-wb; in-pb = w .in-pb };
-      says = i .so-far _
-          (laws.row-less (a .wa .now) (a .pa .now) (a .wb .now) (a .pb .now) (l .m) (l .n) (l .here .i) (l .here .p) (l .here .j) (l .here .q) (c .before .before .if1 .taken) (c .before .if2 .left) _ refl);
-    })
+compare-fields-returns-2 t c = search laws.row-less
 
 compare-fields-stand-requires-3 : compare-fields-need compare-fields-lts.Need-stand-requires-3
 compare-fields-stand-requires-3 t c κs = search needs
 
 compare-fields-returns-3 : compare-fields-need compare-fields-lts.Need-returns-3
-compare-fields-returns-3 t c =
-    let c3 = c .before .before .before in
-    let s = c3 .before .before .before .before .before in
-    let a = s .args in
-    let l = c3 .loop in
-    let i = l .inv in
-    let w = i .within in
-    rw (c .stand3 .ensures) (record {
-      on = i .on;
-      within = record { in-wa = w .in-wa; in-pa = w .in-pa; in-wb = w .in-wb; in-pb = w .in-pb };
-      says = i .so-far _
-          (laws.row-greater (a .wa .now) (a .pa .now) (a .wb .now) (a .pb .now) (l .m) (l .n) (l .here .i) (l .here .p) (l .here .j) (l .here .q) (c .before .before .if1 .left) (c .before .if3 .taken) _ refl);
-    })
+compare-fields-returns-3 t c = search laws.row-greater
 
 compare-fields-compare-value-requires : compare-fields-need compare-fields-lts.Need-compare-value-requires
-compare-fields-compare-value-requires t c κs =
-    let s = c .before .before .before .before .before .before .before in
-    let a = s .args in
-    let l = c .before .before .loop in
-    let i = l .inv in
-    let w = i .within in
-    (omega (arith, s .pre .0, i .on), w)
+compare-fields-compare-value-requires t c κs = search needs
 
 compare-fields-returns-4 : compare-fields-need compare-fields-lts.Need-returns-4
-compare-fields-returns-4 t c =
-    let c3 = c .before .before .before in
-    let c4 = c3 .before in
-    let c5 = c4 .before in
-    let s = c5 .before .before .before .before .before in
-    let a = s .args in
-    let l = c5 .loop in
-    let i = l .inv in
-    let w = i .within in
-    let v = c .before .before .compare-value .ensures in
-    record {
-      on = omega (arith, i .on, v .on);
-      within = v .within;
-      says = i .so-far _ (laws.row-apart (a .wa .now) (a .pa .now) (a .wb .now) (a .pb .now) (l .m) (l .n) (l .here .i) (l .here .p) (l .here .j) (l .here .q)
-          (c4 .if1 .left) (c3 .if3 .left) _ (v .says) (c .if4 .taken));
-    }
+compare-fields-returns-4 t c = search laws.row-apart
 
 compare-fields-sub-m : compare-fields-need compare-fields-lts.Need-sub-m
 compare-fields-sub-m t c = search needs
@@ -142,33 +83,10 @@ compare-fields-sub-n : compare-fields-need compare-fields-lts.Need-sub-n
 compare-fields-sub-n t c = search needs
 
 compare-fields-loop-less : compare-fields-need compare-fields-lts.Need-loop-less
-compare-fields-loop-less t c =
-    let c4 = c .before .before .before .before in
-    let c5 = c4 .before in
-    let s = c5 .before .before .before .before .before in
-    let a = s .args in
-    let l = c5 .loop in
-    let i = l .inv in
-    let w = i .within in
-    omega (arith, c4 .if1 .left)
+compare-fields-loop-less t c = search needs
 
 compare-fields-loop-again : compare-fields-need compare-fields-lts.Need-loop-again
-compare-fields-loop-again t c =
-    let c3 = c .before .before .before in
-    let c4 = c3 .before in
-    let c5 = c4 .before in
-    let s = c5 .before .before .before .before .before in
-    let a = s .args in
-    let l = c5 .loop in
-    let i = l .inv in
-    let w = i .within in
-    let v = c .before .before .compare-value .ensures in
-    record {
-      on = omega (arith, i .on, v .on);
-      within = v .within;
-      so-far = λ e h. i .so-far e (laws.row-next (a .wa .now) (a .pa .now) (a .wb .now) (a .pb .now) (l .m) (l .n) (l .here .i) (l .here .p) (l .here .j)
-          (l .here .q) (c4 .if1 .left) (c3 .if3 .left) _ (v .says) (c .if4 .left) e h);
-    }
+compare-fields-loop-again t c = search laws.row-next
 
 abbrev compare-value-claims : ℕ → compare-value-lts.Claims
 compare-value-claims t = (
@@ -190,18 +108,10 @@ abbrev compare-value-need : (compare-value-lts.Claims → In 4 compare-value-kin
 compare-value-need N = (t : ℕ) → N (compare-value-claims t) (compare-value-at t) compare-value.Post
 
 compare-value-returns : compare-value-need compare-value-lts.Need-returns
-compare-value-returns t c =
-    let s = c .before .before .before .before .before in
-    let a = s .args in
-    let q = s .pre .1 in
-    record { on = omega arith; within = q; says = laws.gone-a (a .wa .now) (a .pa .now) (a .wb .now) (a .pb .now) (a .s .i) (a .s .p) (a .s .j) (a .s .q) _ (c .if1 .taken) }
+compare-value-returns t c = search laws.gone-a
 
 compare-value-returns-2 : compare-value-need compare-value-lts.Need-returns-2
-compare-value-returns-2 t c =
-    let s = c .before .before .before .before .before .before in
-    let a = s .args in
-    let q = s .pre .1 in
-    record { on = omega arith; within = q; says = laws.gone-b (a .wa .now) (a .pa .now) (a .wb .now) (a .pb .now) (a .s .i) (a .s .p) (a .s .j) (a .s .q) _ (c .if2 .taken) }
+compare-value-returns-2 t c = search laws.gone-b
 
 compare-value-mul-rank-of : compare-value-need compare-value-lts.Need-mul-rank-of
 compare-value-mul-rank-of t c = search needs
@@ -228,18 +138,7 @@ compare-value-stand-requires : compare-value-need compare-value-lts.Need-stand-r
 compare-value-stand-requires t c κs = search needs
 
 compare-value-returns-3 : compare-value-need compare-value-lts.Need-returns-3
-compare-value-returns-3 t c =
-    let c3 = c .before .before .before in
-    let c5 = c3 .before .before in
-    let s = c5 .before .before .before .before .before .before .before .before in
-    let a = s .args in
-    let q = s .pre .1 in
-    rw (c .stand .ensures) (record {
-      on = omega arith;
-      within = record { in-wa = q .in-wa; in-pa = q .in-pa; in-wb = q .in-wb; in-pb = q .in-pb };
-      says = laws.apart (a .wa .now) (a .pa .now) (a .wb .now) (a .pb .now)
-          (a .s .i) (a .s .p) (a .s .j) (a .s .q) _ _ (c5 .rank-of .ensures) (c3 .rank-of2 .ensures) _ (c .before .before .number-order .ensures) (c .before .if3 .taken) _ refl;
-    })
+compare-value-returns-3 t c = search laws.apart
 
 compare-value-add-stand : compare-value-need compare-value-lts.Need-add-stand
 compare-value-add-stand t c = search needs
@@ -251,59 +150,19 @@ compare-value-stand-requires-2 : compare-value-need compare-value-lts.Need-stand
 compare-value-stand-requires-2 t c κs = search needs
 
 compare-value-returns-4 : compare-value-need compare-value-lts.Need-returns-4
-compare-value-returns-4 t c =
-    let c3 = c .before .before .before in
-    let c4 = c3 .before in
-    let c6 = c4 .before .before in
-    let c8 = c6 .before .before in
-    let c9 = c8 .before in
-    let s = c9 .before .before .before .before .before in
-    let a = s .args in
-    let q = s .pre .1 in
-    rw (c .stand2 .ensures) (record {
-      on = omega arith;
-      within = record { in-wa = omega (arith, c9 .if1 .left); in-pa = q .in-pa; in-wb = omega (arith, c8 .if2 .left); in-pb = q .in-pb };
-      says = laws.null (a .wa .now)
-          (a .pa .now) (a .wb .now) (a .pb .now) (a .s .i) (a .s .p) (a .s .j) (a .s .q) _ (c6 .rank-of .ensures) (laws.same-rank _ _ _ (c3 .number-order .ensures) (c .before .before .if3 .left) ∙ c4 .rank-of2 .ensures)
-          (c .before .if4 .taken);
-    })
+compare-value-returns-4 t c = search laws.null
 
 compare-value-sub-if5 : compare-value-need compare-value-lts.Need-sub-if5
 compare-value-sub-if5 t c = search needs
 
 compare-value-returns-5 : compare-value-need compare-value-lts.Need-returns-5
-compare-value-returns-5 t c =
-    let c3 = c .before .before .before in
-    let c4 = c3 .before in
-    let c6 = c4 .before .before in
-    let s = c6 .before .before .before .before .before .before .before .before in
-    let a = s .args in
-    let q = s .pre .1 in
-    record {
-      on = omega arith;
-      within = q;
-      says = laws.short-a (a .wa .now) (a .pa .now) (a .wb .now) (a .pb .now) (a .s .i) (a .s .p) (a .s .j) (a .s .q) _ (c6 .rank-of .ensures)
-          (laws.same-rank _ _ _ (c3 .number-order .ensures) (c .before .before .if3 .left) ∙ c4 .rank-of2 .ensures) (c .before .if4 .left) _ (c .if5 .taken);
-    }
+compare-value-returns-5 t c = search laws.short-a
 
 compare-value-sub-if6 : compare-value-need compare-value-lts.Need-sub-if6
 compare-value-sub-if6 t c = search needs
 
 compare-value-returns-6 : compare-value-need compare-value-lts.Need-returns-6
-compare-value-returns-6 t c =
-    let c3 = c .before .before .before in
-    let c4 = c3 .before in
-    let c5 = c4 .before in
-    let c7 = c5 .before .before in
-    let s = c7 .before .before .before .before .before .before .before .before in
-    let a = s .args in
-    let q = s .pre .1 in
-    record {
-      on = omega arith;
-      within = q;
-      says = laws.short-b (a .wa .now) (a .pa .now) (a .wb .now) (a .pb .now) (a .s .i) (a .s .p) (a .s .j) (a .s .q) _ (c7 .rank-of .ensures)
-          (laws.same-rank _ _ _ (c4 .number-order .ensures) (c3 .if3 .left) ∙ c5 .rank-of2 .ensures) (c .before .before .if4 .left) _ (c .if6 .taken);
-    }
+compare-value-returns-6 t c = search laws.short-b
 
 compare-value-add-x : compare-value-need compare-value-lts.Need-add-x
 compare-value-add-x t c = search needs
@@ -333,39 +192,10 @@ compare-value-stand-requires-3 : compare-value-need compare-value-lts.Need-stand
 compare-value-stand-requires-3 t c κs = search needs
 
 compare-value-compare-fields-requires : compare-value-need compare-value-lts.Need-compare-fields-requires
-compare-value-compare-fields-requires t c κs =
-    let c4 = c .before .before .before .before in
-    let c5 = c4 .before in
-    let s = c5 .before .before .before .before .before .before .before .before .before .before .before .before .before .before in
-    let a = s .args in
-    let q = s .pre .1 in
-    rw (c .stand3 .ensures) (
-      omega (arith, s .pre .0, c5 .if5 .left, q .in-wa),
-      record {
-        in-wa = omega (arith, c5 .if5 .left, q .in-wa);
-        in-pa = q .in-pa;
-        in-wb = omega (arith, c4 .if6 .left, q .in-wb);
-        in-pb = q .in-pb;
-      },
-    )
+compare-value-compare-fields-requires t c κs = rw (c .stand3 .ensures) (search needs)
 
 compare-value-returns-7 : compare-value-need compare-value-lts.Need-returns-7
-compare-value-returns-7 t c =
-    let c7 = c .before .before .before .before .before .before .before in
-    let c8 = c7 .before in
-    let c9 = c8 .before in
-    let c10 = c9 .before in
-    let c12 = c10 .before .before in
-    let s = c12 .before .before .before .before .before .before .before .before in
-    let a = s .args in
-    let q = s .pre .1 in
-    let f = rw (c .before .stand3 .ensures) at (c .compare-fields .ensures) in
-    record {
-      on = omega (arith, f .on);
-      within = f .within;
-      says = laws.a-record (a .wa .now) (a .pa .now) (a .wb .now) (a .pb .now) (a .s .i) (a .s .p) (a .s .j) (a .s .q) _ (c12 .rank-of .ensures)
-          (laws.same-rank _ _ _ (c9 .number-order .ensures) (c8 .if3 .left) ∙ c10 .rank-of2 .ensures) (c7 .if4 .left) _ _ refl refl (c .before .before .if7 .taken) _ (f .says);
-    }
+compare-value-returns-7 t c = search laws.a-record
 
 compare-value-number-order-requires-2 : compare-value-need compare-value-lts.Need-number-order-requires-2
 compare-value-number-order-requires-2 t c κs = search needs
@@ -374,23 +204,7 @@ compare-value-stand-requires-4 : compare-value-need compare-value-lts.Need-stand
 compare-value-stand-requires-4 t c κs = search needs
 
 compare-value-returns-8 : compare-value-need compare-value-lts.Need-returns-8
-compare-value-returns-8 t c =
-    let c3 = c .before .before .before in
-    let c9 = c3 .before .before .before .before .before .before in
-    let c10 = c9 .before in
-    let c11 = c10 .before in
-    let c12 = c11 .before in
-    let c14 = c12 .before .before in
-    let s = c14 .before .before .before .before .before .before .before .before in
-    let a = s .args in
-    let q = s .pre .1 in
-    rw (c .stand4 .ensures) (record {
-      on = omega arith;
-      within = record { in-wa = q .in-wa; in-pa = q .in-pa; in-wb = q .in-wb; in-pb = q .in-pb };
-      says = laws.tags-apart (a .wa .now) (a .pa .now) (a .wb .now)
-          (a .pb .now) (a .s .i) (a .s .p) (a .s .j) (a .s .q) _ (c14 .rank-of .ensures) (laws.same-rank _ _ _ (c11 .number-order .ensures) (c10 .if3 .left) ∙ c12 .rank-of2 .ensures) (c9 .if4 .left) _ _ refl refl
-          (c3 .if8 .taken) _ (c .before .before .number-order2 .ensures) (c .before .if9 .taken) _ refl;
-    })
+compare-value-returns-8 t c = search laws.tags-apart
 
 compare-value-add-stand-5 : compare-value-need compare-value-lts.Need-add-stand-5
 compare-value-add-stand-5 t c = search needs
@@ -402,65 +216,16 @@ compare-value-stand-requires-5 : compare-value-need compare-value-lts.Need-stand
 compare-value-stand-requires-5 t c κs = search needs
 
 compare-value-compare-value-requires : compare-value-need compare-value-lts.Need-compare-value-requires
-compare-value-compare-value-requires t c κs =
-    let c7 = c .before .before .before .before .before .before .before in
-    let c8 = c7 .before in
-    let s = c8 .before .before .before .before .before .before .before .before .before .before .before .before .before .before in
-    let a = s .args in
-    let q = s .pre .1 in
-    rw (c .stand5 .ensures) (
-      omega (arith, s .pre .0, c8 .if5 .left, q .in-wa),
-      record {
-        in-wa = omega (arith, c8 .if5 .left, q .in-wa);
-        in-pa = q .in-pa;
-        in-wb = omega (arith, c7 .if6 .left, q .in-wb);
-        in-pb = q .in-pb;
-      },
-    )
+compare-value-compare-value-requires t c κs = rw (c .stand5 .ensures) (search needs)
 
 compare-value-returns-9 : compare-value-need compare-value-lts.Need-returns-9
-compare-value-returns-9 t c =
-    let c3 = c .before .before .before in
-    let c4 = c3 .before in
-    let c10 = c4 .before .before .before .before .before .before in
-    let c11 = c10 .before in
-    let c12 = c11 .before in
-    let c13 = c12 .before in
-    let c15 = c13 .before .before in
-    let s = c15 .before .before .before .before .before .before .before .before in
-    let a = s .args in
-    let q = s .pre .1 in
-    let f = rw (c .before .stand5 .ensures) at (c .compare-value .ensures) in
-    record {
-      on = omega (arith, f .on);
-      within = f .within;
-      says = laws.a-union (a .wa .now) (a .pa .now) (a .wb .now) (a .pb .now) (a .s .i) (a .s .p) (a .s .j) (a .s .q) _ (c15 .rank-of .ensures)
-          (laws.same-rank _ _ _ (c12 .number-order .ensures) (c11 .if3 .left) ∙ c13 .rank-of2 .ensures) (c10 .if4 .left) _ _ refl refl (c4 .if8 .taken) _ (c3 .number-order2 .ensures) (c .before .before .if9 .left) _
-          (f .says);
-    }
+compare-value-returns-9 t c = search laws.a-union
 
 compare-value-compare-scalar-requires : compare-value-need compare-value-lts.Need-compare-scalar-requires
 compare-value-compare-scalar-requires t c κs = search needs
 
 compare-value-returns-10 : compare-value-need compare-value-lts.Need-returns-10
-compare-value-returns-10 t c =
-    let c5 = c .before .before .before .before .before in
-    let c6 = c5 .before in
-    let c7 = c6 .before in
-    let c8 = c7 .before in
-    let c9 = c8 .before in
-    let c10 = c9 .before in
-    let c12 = c10 .before .before in
-    let s = c12 .before .before .before .before .before .before .before .before in
-    let a = s .args in
-    let q = s .pre .1 in
-    let f = c .compare-scalar .ensures in
-    record {
-      on = f .on;
-      within = record { in-wa = omega (arith, f .in-wa, c6 .if5 .left); in-pa = f .in-pa; in-wb = omega (arith, f .in-wb, c5 .if6 .left); in-pb = f .in-pb };
-      says = f .says (a .wa .now) (a .wb .now)
-          (c12 .rank-of .ensures) (laws.same-rank _ _ _ (c9 .number-order .ensures) (c8 .if3 .left) ∙ c10 .rank-of2 .ensures) refl refl (c7 .if4 .left) (c .before .before .if7 .left) (c .before .if8 .left);
-    }
+compare-value-returns-10 t c = search laws.a-scalar
 
 pub +compare-fields+compare-value-spec : {M : Type 1} → statement M
 +compare-fields+compare-value-spec = close μ-compare-fields μ-compare-value (λ t. compare-fields-lts.spec (compare-fields-claims t)
