@@ -8,6 +8,7 @@ pub mod Integers
 pub mod Unjudged
 pub mod Escapes
 pub mod Chunks
+pub mod Writing
 pub mod Measures
 pub mod GroupLaws
 pub mod Rooms

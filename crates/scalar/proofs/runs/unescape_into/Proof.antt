@@ -2,9 +2,9 @@
 use Prim.Native.Nat.{_-_}
 use native.Mathlib.Omega.{arith}
 use lib.ListN.{length, drop}
-use Rattle.blocks.proofs.Put.{Left, left-all, left-store, left-none}
+use Rattle.blocks.proofs.Put.{Left, left-all}
 use Rattle.scalar.specs.Runs.{unescape}
-use Rattle.scalar.proofs.Chunks.{unescape-copied, unescape-over, unescape-past, unescape-ahead}
+use Rattle.scalar.proofs.Writing as laws
 use Rattle.scalar.proofs.runs.unescape_into.Statement.{statement}
 use Rattle.scalar.proofs.runs.unescape_into.Tie as tie
 
@@ -21,86 +21,29 @@ zero-from-requires : tie.Need-zero-from-requires Inv-loop μ-loop
 zero-from-requires c κs = omega arith
 
 copy-to-requires : tie.Need-copy-to-requires Inv-loop μ-loop
-copy-to-requires c κs =
-    let at-zero-from = c .before in
-    let at-loop = at-zero-from .before .before in
-    let entry = at-loop .before .before .before in
-    let l = at-loop .loop in
-    let s = entry .args .run .now in
-    let z = at-zero-from .zero-from .result in
-    let f = at-zero-from .zero-from .ensures in
-    let ahead = unescape-ahead s (l .i) z f in
-    (f .after, f .inside, omega arith)
+copy-to-requires c κs = (omega arith, omega arith, search laws.payload-room)
 
 sub-o : tie.Need-sub-o Inv-loop μ-loop
-sub-o c = c .before .before .before .before .zero-from .ensures .after
+sub-o c = omega arith
 
 add-o : tie.Need-add-o Inv-loop μ-loop
-add-o c =
-    let at-zero-from = c .before .before .before .before in
-    let at-loop = at-zero-from .before .before in
-    let entry = at-loop .before .before .before in
-    let l = at-loop .loop in
-    let s = entry .args .run .now in
-    let z = at-zero-from .zero-from .result in
-    let f = at-zero-from .zero-from .ensures in
-    let ahead = unescape-ahead s (l .i) z f in
-    omega arith
+add-o c = search laws.payload-place
 
 same-length : tie.Need-same-length Inv-loop μ-loop
-same-length c =
-    let at-copy-to = c .before .before .before in
-    let at-zero-from = at-copy-to .before .before in
-    let at-loop = at-zero-from .before .before in
-    let entry = at-loop .before .before .before in
-    let l = at-loop .loop in
-    let s = entry .args .run .now in
-    let z = at-zero-from .zero-from .result in
-    let f = at-zero-from .zero-from .ensures in
-    let copied = unescape-copied s (l .i) z f (omega arith) (l .inv) (at-copy-to .copy-to .ensures) in
-    copied .long
+same-length c = search laws.payload-long
 
 returns : tie.Need-returns Inv-loop μ-loop
 returns c =
     let at-copy-to = c .before .before .before in
     let at-zero-from = at-copy-to .before .before in
     let at-loop = at-zero-from .before .before in
-    let entry = at-loop .before .before .before in
-    let l = at-loop .loop in
-    let s = entry .args .run .now in
-    let z = at-zero-from .zero-from .result in
-    let f = at-zero-from .zero-from .ensures in
-    let copied = unescape-copied s (l .i) z f (omega arith) (l .inv) (at-copy-to .copy-to .ensures) in
-    let done = rw (unescape-past s z (c .if1 .taken)) at copied in
-    (omega arith, left-none done)
+    laws.payload-done (at-zero-from .zero-from .ensures) (at-loop .loop .inv) (at-loop .before .before .before .pre) (at-copy-to .copy-to .ensures) (c .if1 .taken)
 
 slice-write-dst : tie.Need-slice-write-dst Inv-loop μ-loop
-slice-write-dst c =
-    let at-copy-to = c .before .before .before in
-    let at-zero-from = at-copy-to .before .before in
-    let at-loop = at-zero-from .before .before in
-    let entry = at-loop .before .before .before in
-    let l = at-loop .loop in
-    let s = entry .args .run .now in
-    let z = at-zero-from .zero-from .result in
-    let f = at-zero-from .zero-from .ensures in
-    let copied = unescape-copied s (l .i) z f (omega arith) (l .inv) (at-copy-to .copy-to .ensures) in
-    let left = rw (unescape-over s (l .i) z f (c .if1 .left)) at copied in
-    omega arith
+slice-write-dst c = search laws.payload-zero-room
 
 add-o-2 : tie.Need-add-o-2 Inv-loop μ-loop
-add-o-2 c =
-    let at-copy-to = c .before .before .before in
-    let at-zero-from = at-copy-to .before .before in
-    let at-loop = at-zero-from .before .before in
-    let entry = at-loop .before .before .before in
-    let l = at-loop .loop in
-    let s = entry .args .run .now in
-    let z = at-zero-from .zero-from .result in
-    let f = at-zero-from .zero-from .ensures in
-    let copied = unescape-copied s (l .i) z f (omega arith) (l .inv) (at-copy-to .copy-to .ensures) in
-    let left = rw (unescape-over s (l .i) z f (c .if1 .left)) at copied in
-    omega arith
+add-o-2 c = omega (arith, slice-write-dst c)
 
 add-i : tie.Need-add-i Inv-loop μ-loop
 add-i c = omega arith
@@ -109,26 +52,13 @@ loop-less : tie.Need-loop-less Inv-loop μ-loop
 loop-less c = omega arith
 
 loop-again : tie.Need-loop-again Inv-loop μ-loop
-loop-again c =
-    let at-copy-to = c .before .before .before in
-    let at-zero-from = at-copy-to .before .before in
-    let at-loop = at-zero-from .before .before in
-    let entry = at-loop .before .before .before in
-    let l = at-loop .loop in
-    let s = entry .args .run .now in
-    let z = at-zero-from .zero-from .result in
-    let f = at-zero-from .zero-from .ensures in
-    let copied = unescape-copied s (l .i) z f (omega arith) (l .inv) (at-copy-to .copy-to .ensures) in
-    let left = rw (unescape-over s (l .i) z f (c .if1 .left)) at copied in
-    left-store (omega arith) left
+loop-again c = search laws.payload-on
 
 same-length-2 : tie.Need-same-length-2 Inv-loop μ-loop
 same-length-2 c = c .before .loop .inv .long
 
 returns-2 : tie.Need-returns-2 Inv-loop μ-loop
-returns-2 c =
-    let done = rw (unescape-past (c .before .before .before .before .args .run .now) (c .before .loop .i) (c .loop-test .left)) at (c .before .loop .inv) in
-    (omega arith, left-none done)
+returns-2 c = (search laws.past-ends, search laws.past-whole)
 
 pub unescape-into-spec : {M : Type 1} → statement M
 unescape-into-spec =

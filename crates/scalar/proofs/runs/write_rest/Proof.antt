@@ -3,8 +3,8 @@ use Prim.Native.Nat.{_-_, _≤_}
 use native.Mathlib.Omega.{arith}
 use lib.ListN.{length, drop, length-set}
 use Rattle.format.specs.Scalar.{escaped}
-use Rattle.blocks.proofs.Put.{Left, left-all, left-store, left-none}
-use Rattle.scalar.proofs.Chunks.{escaped-copied, escaped-over, escaped-past, escaped-ahead}
+use Rattle.blocks.proofs.Put.{Left, left-all}
+use Rattle.scalar.proofs.Writing as laws
 use Rattle.scalar.proofs.runs.write_rest.Statement.{statement}
 use Rattle.scalar.proofs.runs.write_rest.Tie as tie
 
@@ -21,87 +21,25 @@ zero-from-requires : tie.Need-zero-from-requires Inv-loop μ-loop
 zero-from-requires c κs = omega arith
 
 copy-to-requires : tie.Need-copy-to-requires Inv-loop μ-loop
-copy-to-requires c κs =
-    let at-zero-from = c .before in
-    let at-loop = at-zero-from .before in
-    let entry = at-loop .before .before .before in
-    let l = at-loop .loop in
-    let s = entry .args .payload .now in
-    let z = at-zero-from .zero-from .result in
-    let f = at-zero-from .zero-from .ensures in
-    let ahead = escaped-ahead s (l .i) z f in
-    (f .after, f .inside, omega arith)
+copy-to-requires c κs = (omega arith, omega arith, search laws.run-room)
 
 sub-o : tie.Need-sub-o Inv-loop μ-loop
-sub-o c = c .before .before .before .before .zero-from .ensures .after
+sub-o c = omega arith
 
 add-o : tie.Need-add-o Inv-loop μ-loop
-add-o c =
-    let at-zero-from = c .before .before .before .before in
-    let at-loop = at-zero-from .before in
-    let entry = at-loop .before .before .before in
-    let l = at-loop .loop in
-    let s = entry .args .payload .now in
-    let z = at-zero-from .zero-from .result in
-    let f = at-zero-from .zero-from .ensures in
-    let ahead = escaped-ahead s (l .i) z f in
-    omega arith
+add-o c = search laws.run-place
 
 slice-write-buf : tie.Need-slice-write-buf Inv-loop μ-loop
-slice-write-buf c =
-    let at-copy-to = c .before .before .before in
-    let at-zero-from = at-copy-to .before .before in
-    let at-loop = at-zero-from .before in
-    let entry = at-loop .before .before .before in
-    let l = at-loop .loop in
-    let s = entry .args .payload .now in
-    let z = at-zero-from .zero-from .result in
-    let f = at-zero-from .zero-from .ensures in
-    let copied = escaped-copied s (l .i) z f (omega arith) (l .inv .1) (at-copy-to .copy-to .ensures) in
-    let left = rw (escaped-over s (l .i) z f (c .if1 .left)) at copied in
-    omega arith
+slice-write-buf c = search laws.zero-room
 
 add-o-2 : tie.Need-add-o-2 Inv-loop μ-loop
-add-o-2 c =
-    let at-copy-to = c .before .before .before in
-    let at-zero-from = at-copy-to .before .before in
-    let at-loop = at-zero-from .before in
-    let entry = at-loop .before .before .before in
-    let l = at-loop .loop in
-    let s = entry .args .payload .now in
-    let z = at-zero-from .zero-from .result in
-    let f = at-zero-from .zero-from .ensures in
-    let copied = escaped-copied s (l .i) z f (omega arith) (l .inv .1) (at-copy-to .copy-to .ensures) in
-    let left = rw (escaped-over s (l .i) z f (c .if1 .left)) at copied in
-    omega arith
+add-o-2 c = omega (arith, slice-write-buf c)
 
 slice-write-buf-2 : tie.Need-slice-write-buf-2 Inv-loop μ-loop
-slice-write-buf-2 c =
-    let at-copy-to = c .before .before .before in
-    let at-zero-from = at-copy-to .before .before in
-    let at-loop = at-zero-from .before in
-    let entry = at-loop .before .before .before in
-    let l = at-loop .loop in
-    let s = entry .args .payload .now in
-    let z = at-zero-from .zero-from .result in
-    let f = at-zero-from .zero-from .ensures in
-    let copied = escaped-copied s (l .i) z f (omega arith) (l .inv .1) (at-copy-to .copy-to .ensures) in
-    let left = rw (escaped-over s (l .i) z f (c .if1 .left)) at copied in
-    simp length-set (omega arith)
+slice-write-buf-2 c = search laws.mark-room
 
 add-o-3 : tie.Need-add-o-3 Inv-loop μ-loop
-add-o-3 c =
-    let at-copy-to = c .before .before .before in
-    let at-zero-from = at-copy-to .before .before in
-    let at-loop = at-zero-from .before in
-    let entry = at-loop .before .before .before in
-    let l = at-loop .loop in
-    let s = entry .args .payload .now in
-    let z = at-zero-from .zero-from .result in
-    let f = at-zero-from .zero-from .ensures in
-    let copied = escaped-copied s (l .i) z f (omega arith) (l .inv .1) (at-copy-to .copy-to .ensures) in
-    let left = rw (escaped-over s (l .i) z f (c .if1 .left)) at copied in
-    omega arith
+add-o-3 c = omega (arith, simp length-set at (slice-write-buf-2 c))
 
 add-i : tie.Need-add-i Inv-loop μ-loop
 add-i c = omega arith
@@ -110,74 +48,19 @@ loop-less : tie.Need-loop-less Inv-loop μ-loop
 loop-less c = omega arith
 
 loop-again : tie.Need-loop-again Inv-loop μ-loop
-loop-again c =
-    let at-copy-to = c .before .before .before in
-    let at-zero-from = at-copy-to .before .before in
-    let at-loop = at-zero-from .before in
-    let entry = at-loop .before .before .before in
-    let l = at-loop .loop in
-    let s = entry .args .payload .now in
-    let z = at-zero-from .zero-from .result in
-    let f = at-zero-from .zero-from .ensures in
-    let copied = escaped-copied s (l .i) z f (omega arith) (l .inv .1) (at-copy-to .copy-to .ensures) in
-    let left = rw (escaped-over s (l .i) z f (c .if1 .left)) at copied in
-    (omega arith, left-store (omega arith) (left-store (omega arith) left))
+loop-again c = (omega arith, search laws.run-on)
 
 slice-write-buf-3 : tie.Need-slice-write-buf-3 Inv-loop μ-loop
-slice-write-buf-3 c =
-    let at-copy-to = c .before .before .before in
-    let at-zero-from = at-copy-to .before .before in
-    let at-loop = at-zero-from .before in
-    let entry = at-loop .before .before .before in
-    let l = at-loop .loop in
-    let s = entry .args .payload .now in
-    let z = at-zero-from .zero-from .result in
-    let f = at-zero-from .zero-from .ensures in
-    let copied = escaped-copied s (l .i) z f (omega arith) (l .inv .1) (at-copy-to .copy-to .ensures) in
-    let end = rw (escaped-past s z (c .if1 .taken)) at copied in
-    omega arith
+slice-write-buf-3 c = search laws.end-room
 
 add-result : tie.Need-add-result Inv-loop μ-loop
-add-result c =
-    let at-copy-to = c .before .before .before in
-    let at-zero-from = at-copy-to .before .before in
-    let at-loop = at-zero-from .before in
-    let entry = at-loop .before .before .before in
-    let l = at-loop .loop in
-    let s = entry .args .payload .now in
-    let z = at-zero-from .zero-from .result in
-    let f = at-zero-from .zero-from .ensures in
-    let copied = escaped-copied s (l .i) z f (omega arith) (l .inv .1) (at-copy-to .copy-to .ensures) in
-    let end = rw (escaped-past s z (c .if1 .taken)) at copied in
-    omega arith
+add-result c = omega (arith, slice-write-buf-3 c)
 
 same-length : tie.Need-same-length Inv-loop μ-loop
-same-length c =
-    let at-copy-to = c .before .before .before in
-    let at-zero-from = at-copy-to .before .before in
-    let at-loop = at-zero-from .before in
-    let entry = at-loop .before .before .before in
-    let l = at-loop .loop in
-    let s = entry .args .payload .now in
-    let z = at-zero-from .zero-from .result in
-    let f = at-zero-from .zero-from .ensures in
-    let copied = escaped-copied s (l .i) z f (omega arith) (l .inv .1) (at-copy-to .copy-to .ensures) in
-    simp length-set (copied .long)
+same-length c = search laws.run-long
 
 returns : tie.Need-returns Inv-loop μ-loop
-returns c =
-    let at-copy-to = c .before .before .before in
-    let at-zero-from = at-copy-to .before .before in
-    let at-loop = at-zero-from .before in
-    let entry = at-loop .before .before .before in
-    let l = at-loop .loop in
-    let s = entry .args .payload .now in
-    let z = at-zero-from .zero-from .result in
-    let f = at-zero-from .zero-from .ensures in
-    let copied = escaped-copied s (l .i) z f (omega arith) (l .inv .1) (at-copy-to .copy-to .ensures) in
-    let end = rw (escaped-past s z (c .if1 .taken)) at copied in
-    let done = left-store (omega arith) end in
-    (omega arith, left-none done)
+returns c = (search laws.run-ends, search laws.run-whole)
 
 pub write-rest-spec : {M : Type 1} → statement M
 write-rest-spec =
