@@ -15,8 +15,7 @@ same-length c = search needs
 
 returns : tie.Need-returns
 returns c =
-    let c3 = c .before .before .before in
-    laws.wrote _ (c3 .encode-key .result) _ _ (c .of-length .ensures) (c3 .encode-key .ensures)
+    laws.wrote _ _ _ _ (c .of-length .ensures) (c .before .before .before .encode-key .ensures)
 
 pub tuple-encode-key-spec : {M : Type 1} → statement M
 tuple-encode-key-spec =

@@ -15,8 +15,7 @@ same-length c = search needs
 
 returns : tie.Need-returns
 returns c =
-    let c3 = c .before .before .before in
-    laws.wrote _ (c3 .encode-typed .result) _ _ (c .of-length .ensures) (c3 .encode-typed .ensures)
+    laws.wrote _ _ _ _ (c .of-length .ensures) (c .before .before .before .encode-typed .ensures)
 
 pub tuple-encode-typed-spec : {M : Type 1} → statement M
 tuple-encode-typed-spec =
