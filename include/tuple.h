@@ -6,7 +6,7 @@
  *   - the thread has 160 KB of stack left: no call takes more.
  * Every call is total: it answers, or refuses with a number and a detail. An accepted answer has refusal 0 and detail 0. A refused one has 0 in every field
  * but refusal, detail, the values begun and a cursor or reader, and then no byte of a lent buffer has changed. An accepted call leaves what it does not write as it was.
- * No call allocates, or keeps anything for the next.
+ * No call allocates, or keeps anything for the next. Of the C library the archive has memcpy and memmove alone.
  *
  * A type sheet is a list of words, outermost first: 1 Int; 2 Str; 3 Bytes; 4 P, a reference to predicate P; 5 n and n types, a record; 6 n and n pairs of a
  * discriminant and a type, a union. It has at most 4,096 words. A value sheet is a list of words and a pool of bytes: 0 Null; 1 w Int, a two's complement word;

@@ -38,6 +38,10 @@ module _ (d : List ℕ) (at : ℕ) where
 pub set-put : (d : List ℕ) (i b : ℕ) → i < length d → set d i b ≡ put d i (b ∷ [])
 set-put d i b h = rw add-one (set-split d i b h)
 
+-- what was put in front stands in front
+pub put-begins : (d s : List ℕ) {m : List ℕ} {n : ℕ} → m ≡ put d 0 s → length s ≡ n → slice 0 n m ≡ s
+put-begins d s {n = n} e h = ap (slice 0 n) e ∙ take-at s (drop (0 + length s) d) n h
+
 -- a put behind a put
 pub put-then : (l : List ℕ) (at : ℕ) (xs ys : List ℕ) {m l′ : List ℕ} {a : ℕ} → at + length xs + length ys ≤ length l → a ≡ at + length xs → m ≡ put l at xs → l′ ≡ put m a ys
     → l′ ≡ put l at (xs ++ ys)

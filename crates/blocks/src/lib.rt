@@ -8,6 +8,7 @@ pub use comparing::Order;
 pub use comparing::compare;
 pub use comparing::differ_at;
 pub use copying::copy_clear;
+pub use copying::copy_front;
 pub use copying::copy_to;
 pub use copying::move_within;
 pub use low::low_blocks;

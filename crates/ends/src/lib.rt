@@ -37,7 +37,7 @@ pub fn strinc(prefix: &[u8], out: &mut [u8]) -> Length
         return Length::Refused(format::NO_ROOM, n as u64);
     }
     let last = n - 1;
-    blocks::copy_to(out, 0, prefix, 0, last);
+    blocks::copy_front(out, prefix, last);
     out[last] = prefix[last] + 1;
     Length::Done(n)
 }
@@ -51,7 +51,7 @@ pub fn above_field(key: &[u8], out: &mut [u8]) -> Length
     if out.len() < end {
         return Length::Refused(format::NO_ROOM, end as u64);
     }
-    blocks::copy_to(out, 0, key, 0, n);
+    blocks::copy_front(out, key, n);
     out[n] = format::MARK_ESCAPE;
     Length::Done(end)
 }

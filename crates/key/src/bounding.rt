@@ -23,7 +23,7 @@ fn write_ends(key: &[u8], n: usize, lower: &mut [u8], upper: &mut [u8]) -> Bound
     match ends::above_field(&key[..n], upper) {
         Length::Refused(no, detail) => Bounded::Refused(no, detail),
         Length::Done(end) => {
-            blocks::copy_to(lower, 0, key, 0, n);
+            blocks::copy_front(lower, key, n);
             Bounded::Done(n, end)
         }
     }

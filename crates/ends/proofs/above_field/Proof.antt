@@ -17,8 +17,8 @@ returns c =
     let a = c .before .before .before .args in
     a-room (a .key .now) (a .out .now) (c .if1 .taken) (omega arith)
 
-copy-to-requires : tie.Need-copy-to-requires
-copy-to-requires c κs = search needs
+copy-front-requires : tie.Need-copy-front-requires
+copy-front-requires c κs = search needs
 
 slice-write-out : tie.Need-slice-write-out
 slice-write-out c = search needs
@@ -30,8 +30,8 @@ returns-2 : tie.Need-returns-2
 returns-2 c =
     let m = c .before .before in
     let a = m .before .before .before .before .before .args in
-    a-done (a .key .now) (a .out .now) (omega arith) _ (ap (λ (l : List ℕ). set l (length (a .key .now)) 0xFF) (m .copy-to .ensures))
+    a-done (a .key .now) (a .out .now) (omega arith) _ (ap (λ (l : List ℕ). set l (length (a .key .now)) 0xFF) (m .copy-front .ensures))
 
 pub above-field-spec : {M : Type 1} → statement M
 above-field-spec =
-    tie.close (tie.spec add-end returns copy-to-requires slice-write-out same-length returns-2)
+    tie.close (tie.spec add-end returns copy-front-requires slice-write-out same-length returns-2)

@@ -24,8 +24,8 @@ returns-2 c =
 sub-last : tie.Need-sub-last
 sub-last c = search needs
 
-copy-to-requires : tie.Need-copy-to-requires
-copy-to-requires c κs = search needs
+copy-front-requires : tie.Need-copy-front-requires
+copy-front-requires c κs = search needs
 
 shared-slice-read-out : tie.Need-shared-slice-read-out
 shared-slice-read-out c = search needs
@@ -50,7 +50,7 @@ returns-3 c =
     let a = m .before .before .before .before .args in
     let last = t .result - 1 in
     s-done (a .prefix .now) (a .out .now) (t .result) (t .ensures) (m .if1 .left) (omega arith) _
-    (ap (λ (l : List ℕ). set l last (getD (a .prefix .now) last 0 + 1)) (c .before .before .before .copy-to .ensures))
+    (ap (λ (l : List ℕ). set l last (getD (a .prefix .now) last 0 + 1)) (c .before .before .before .copy-front .ensures))
 
 pub strinc-spec : {M : Type 1} → statement M
 strinc-spec =
@@ -60,7 +60,7 @@ strinc-spec =
     returns
     returns-2
     sub-last
-    copy-to-requires
+    copy-front-requires
     shared-slice-read-out
     add-out
     slice-write-out

@@ -23,8 +23,8 @@ enum-known-no c = search needs
 enum-known-end : tie.Need-enum-known-end
 enum-known-end c = search needs
 
-copy-to-requires : tie.Need-copy-to-requires
-copy-to-requires c κs = search needs
+copy-front-requires : tie.Need-copy-front-requires
+copy-front-requires c κs = search needs
 
 same-length : tie.Need-same-length
 same-length c = search needs
@@ -50,7 +50,7 @@ write-ends-spec =
     above-field-requires
     enum-known-no
     enum-known-end
-    copy-to-requires
+    copy-front-requires
     same-length
     returns-2
     same-length-2
