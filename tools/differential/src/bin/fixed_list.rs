@@ -296,6 +296,17 @@ fn block_calls() -> Vec<Call> {
     calls
 }
 
+/// Whole keys that end round the blocks of 2,048 bytes that a copy may go by.
+fn whole_key_calls() -> Vec<Call> {
+    let mut calls = Vec::new();
+    for len in [2_047, 2_048, 2_049, 4_096, 4_097, 8_192, 8_193] {
+        let bytes: Vec<u8> = (0..len).map(|i| (i / 100 + 1) as u8).collect();
+        calls.push(Call { bytes: bytes.clone(), rooms: [len + 1, 0], ..Call::new(Kind::Strinc) });
+        calls.push(Call { bytes, rooms: [len + 1, 0], ..Call::new(Kind::AboveField) });
+    }
+    calls
+}
+
 /// Families without end give as many inputs as asked; the others as many, spread over them all.
 fn run_families(chooser: &mut Chooser, options: &Options) {
     let mut work = Work::default();
@@ -305,7 +316,7 @@ fn run_families(chooser: &mut Chooser, options: &Options) {
             (_, true) | ("limits", false) => 0,
             ("longtypes", _) => options.inputs / 50,
             ("lengths", _) => options.inputs / 20,
-            ("bytes3" | "types5" | "steps2" | "places", _) => options.inputs / 50,
+            ("bytes3" | "types5" | "steps2" | "places" | "copies", _) => options.inputs / 50,
             ("depths" | "counts", _) => options.inputs / 4,
             _ => options.inputs,
         };
@@ -332,7 +343,7 @@ fn run(options: Options) -> ExitCode {
     let specimens = include_str!("../../../oracle/specimens.txt").lines().filter_map(|line| line.split_once(" = "));
     let specimens = specimens.map(|(call, _)| read_call(call).expect("a specimen is a call"));
     let mut lines: BTreeMap<(Kind, u32), BTreeSet<(usize, String)>> = BTreeMap::new();
-    for call in specimens.chain(block_calls()) {
+    for call in specimens.chain(block_calls()).chain(whole_key_calls()) {
         if !chooser.takes(call.kind) {
             continue;
         }

@@ -92,6 +92,30 @@ pub fn places(work: &mut Work, input: u64, sink: &mut dyn Sink) {
     }
 }
 
+// ---- whole keys
+
+/// Four blocks of the 2,048 bytes that a copy of a whole key may go by, and some more.
+pub const COPIES_INPUTS: u64 = 8_400;
+
+/// A key of a given length. Its bytes change every hundred, so that a part at a wrong place differs.
+pub fn copies(work: &mut Work, input: u64, sink: &mut dyn Sink) {
+    let mut bytes: Vec<u8> = (0..input).map(|i| (i / 100 + 1) as u8).collect();
+    work.set_bytes(&bytes);
+    work.send(Kind::AboveField, sink);
+    for _ in 0..3 {
+        work.set_bytes(&bytes);
+        work.send(Kind::Strinc, sink);
+        bytes.push(0xFF);
+    }
+    work.call.bytes.clear();
+    write_run(0x53, &bytes, &mut work.call.bytes);
+    work.call.ty = vec![5, 2, 3, 1];
+    work.call.bytes.push(0x48);
+    for k in 0..=2 {
+        work.send_with(Kind::Bounds, &[k], sink);
+    }
+}
+
 // ---- small sheets
 
 /// The words that small sheets are made of: 0 to 7.

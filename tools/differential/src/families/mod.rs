@@ -62,6 +62,13 @@ pub const FAMILIES: &[Family] = &[
         run: exhaustive::places,
     },
     Family {
+        name: "copies",
+        about: "whole keys of every length up to 8,400: strinc, above_field, bounds",
+        inputs: Some(exhaustive::COPIES_INPUTS),
+        chunk: 16,
+        run: exhaustive::copies,
+    },
+    Family {
         name: "types5",
         about: "every type sheet of up to 5 words over 0 to 7, each with all keys of up to 4 telling bytes: decoding",
         inputs: Some(exhaustive::TYPES5_INPUTS),
