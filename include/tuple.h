@@ -10,7 +10,8 @@
  *
  * A type sheet is a list of words, outermost first: 1 Int; 2 Str; 3 Bytes; 4 P, a reference to predicate P; 5 n and n types, a record; 6 n and n pairs of a
  * discriminant and a type, a union. It has at most 4,096 words. A value sheet is a list of words and a pool of bytes: 0 Null; 1 w Int, a two's complement word;
- * 2 len Str and 3 len Bytes, whose bytes stand in the pool in order; 4 raw, a reference; 5 n and n values, a record; 6 disc and one value, a union, disc below 2^32.
+ * 2 len Str and 3 len Bytes, whose bytes stand in the pool in order; 4 raw, a reference (tuple_fact_id makes its raw number from predicate and sequence); 5 n and
+ * n values, a record; 6 disc and one value, a union, disc below 2^32.
  * It has at most 1,048,576 words and as many pool bytes. Both nest at most 320 groups (records and unions) and are used up exactly; a Str is UTF-8. */
 #ifndef TUPLE_H
 #define TUPLE_H
@@ -33,7 +34,7 @@ enum {
     TUPLE_BAD_INTEGER = 5,           /* not the shortest form */
     TUPLE_BAD_RECORD = 6,            /* the wrong number of fields, or a group opened at depth 256 */
     TUPLE_KEY_TOO_LONG = 7,          /* a key over 65,531 bytes; detail: its length */
-    TUPLE_FACT_REF_PREDICATE = 8,    /* a reference to another predicate than the type's; detail: the predicate found */
+    TUPLE_FACT_REF_PREDICATE = 8,    /* a reference to another predicate than the type's (tuple_fact_id makes one); detail: the predicate found */
     TUPLE_RESERVED_FACT_ID = 9,      /* a reference with sequence 0 */
     TUPLE_UNKNOWN_DISCRIMINANT = 10, /* the union type has no such alternative; detail: the tag */
     TUPLE_TYPE_MISMATCH = 11,        /* a value of another kind than its type; detail: the type's kind */
@@ -47,6 +48,23 @@ enum {
     TUPLE_NO_BOUND = 19,             /* strinc: no string is above all that begin with the prefix */
     TUPLE_BAD_LINE = 20              /* the program keylist alone: a line that is no key */
 };
+
+/* ---- references: the raw number has a predicate in its high 24 bits and a sequence in its low 40. Sequence 0 is reserved (9). A type may name any 32-bit
+ * predicate; one of 2^24 or more matches no reference (8, with the predicate found). */
+
+#define TUPLE_SEQUENCE_BITS 40
+
+/* the raw number for a predicate below 2^24 and a sequence from 1 to 2^40 - 1; 0 where there is none, which as a value is refused (9) */
+static inline uint64_t tuple_fact_id(uint32_t predicate, uint64_t sequence) {
+    bool none = predicate >> (64 - TUPLE_SEQUENCE_BITS) != 0 || sequence == 0 || sequence >> TUPLE_SEQUENCE_BITS != 0;
+    return none ? 0 : (uint64_t)predicate << TUPLE_SEQUENCE_BITS | sequence;
+}
+static inline uint32_t tuple_fact_predicate(uint64_t raw) {
+    return (uint32_t)(raw >> TUPLE_SEQUENCE_BITS);
+}
+static inline uint64_t tuple_fact_sequence(uint64_t raw) {
+    return raw & ((UINT64_C(1) << TUPLE_SEQUENCE_BITS) - 1);
+}
 
 /* ---- answers */
 
@@ -129,6 +147,7 @@ tuple_length tuple_put_u64(uint8_t *out, size_t out_len, size_t at, uint64_t num
 /* refusal 4 comes before 17 */
 tuple_length tuple_put_str(uint8_t *out, size_t out_len, size_t at, const uint8_t *text, size_t text_len);
 tuple_length tuple_put_bytes(uint8_t *out, size_t out_len, size_t at, const uint8_t *payload, size_t payload_len);
+/* a reference by its raw number, which is not checked */
 tuple_length tuple_put_fact_id(uint8_t *out, size_t out_len, size_t at, uint64_t raw);
 
 /* ---- the reading cursor: a place in the bytes and the number of open groups, both held by the caller; it starts at place 0 and depth 0.
@@ -140,7 +159,7 @@ tuple_step tuple_take_null(const uint8_t *bytes, size_t bytes_len, size_t at, si
 tuple_step tuple_take_i64(const uint8_t *bytes, size_t bytes_len, size_t at, size_t depth);
 /* refusals of tuple_get_u64 */
 tuple_step tuple_take_u64(const uint8_t *bytes, size_t bytes_len, size_t at, size_t depth);
-/* a reference to any predicate; refusals 1, 2, 9 */
+/* a reference to any predicate, as its raw number; refusals 1, 2, 9 */
 tuple_step tuple_take_fact_id(const uint8_t *bytes, size_t bytes_len, size_t at, size_t depth);
 /* the payload of a Str; refusals and scratch buffer as of tuple_get_str */
 tuple_part_step tuple_take_str(const uint8_t *bytes, size_t bytes_len, size_t at, size_t depth, uint8_t *scratch, size_t scratch_len);

@@ -1,5 +1,7 @@
 //! What is timed: types with values of them, all records, so that every call takes them.
 
+use fjord_schema::id::SEQUENCE_BITS;
+
 pub struct Input {
     pub name: &'static str,
     pub ty: Vec<u32>,
@@ -46,7 +48,8 @@ fn alternative(i: u64, words: &mut Vec<u64>, pool: &mut Vec<u8>) {
 pub fn all() -> Vec<Input> {
     let mut list = Vec::new();
     // a tag, a number and a reference
-    let tank = (0..64u64).map(|i| (vec![5, 3, 3, 5, 1, 1_000 + i, 4, (7 << 32) + 1 + i], vec![b'T', b'0', 0x0A, 0x00, i as u8 + 1]));
+    let tank =
+        (0..64u64).map(|i| (vec![5, 3, 3, 5, 1, 1_000 + i, 4, (7 << SEQUENCE_BITS) + 1 + i], vec![b'T', b'0', 0x0A, 0x00, i as u8 + 1]));
     list.push(Input { name: "tank key", ty: vec![5, 3, 3, 1, 4, 7], values: tank.collect() });
 
     let mut ints = vec![5, 1_000];
@@ -73,7 +76,7 @@ pub fn all() -> Vec<Input> {
     let mut ty = vec![5, 4, 4, 9, 1, 5, 3, 2, 1, 5, 2, 2, 3];
     alternatives(&mut ty);
     let values = (0..90).map(|i| {
-        let mut words = vec![5, 4, 4, (9 << 32) + 77, 1, i + 1, 5, 3, 2, 10, 1, 250_000 + i, 5, 2, 2, 4, 3, 3];
+        let mut words = vec![5, 4, 4, (9 << SEQUENCE_BITS) + 77, 1, i + 1, 5, 3, 2, 10, 1, 250_000 + i, 5, 2, 2, 4, 3, 3];
         let mut pool = b"sodium\0ascbulk\x01\x00\x02".to_vec();
         alternative(i, &mut words, &mut pool);
         (words, pool)

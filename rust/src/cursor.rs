@@ -94,7 +94,7 @@ impl<'a> TupleDecoder<'a> {
         self.step(ffi::take_u64(self.bytes, self.at, self.depth))
     }
 
-    /// Takes a reference to any predicate.
+    /// Takes a reference to any predicate; its sequence is not 0.
     pub fn take_fact_id(&mut self) -> Result<FactId, Refusal> {
         self.step(ffi::take_fact_id(self.bytes, self.at, self.depth)).map(FactId::from_raw)
     }

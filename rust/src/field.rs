@@ -134,7 +134,7 @@ pub fn put_bytes(out: &mut Vec<u8>, bytes: &[u8]) {
 ///
 /// let mut out = Vec::new();
 /// tuple::put_fact_id(&mut out, FactId::new(PredicateId(7), 1).unwrap());
-/// assert_eq!(out, [0x51, 0, 0, 0, 7, 0, 0, 0, 1]);
+/// assert_eq!(out, [0x51, 0, 0, 7, 0, 0, 0, 0, 1]);
 /// ```
 pub fn put_fact_id(out: &mut Vec<u8>, id: FactId) {
     put(out, 9, |buffer, at| ffi::put_fact_id(buffer, at, id.raw()));

@@ -1,4 +1,4 @@
-//! That this crate has every call and refusal of include/tuple.h, as that declares them.
+//! That this crate has every call and refusal of include/tuple.h and its split of references, as that declares them.
 
 use crate::refusal::Refusal;
 
@@ -57,6 +57,12 @@ fn every_call() {
     let calls = declared();
     assert!(calls.len() >= 36);
     assert_eq!(here(), calls);
+}
+
+#[test]
+fn the_split_of_a_reference() {
+    let bits = HEADER.lines().find_map(|line| line.strip_prefix("#define TUPLE_SEQUENCE_BITS ")).unwrap();
+    assert_eq!(bits.parse(), Ok(crate::sheet::SEQUENCE_BITS));
 }
 
 #[test]

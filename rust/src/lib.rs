@@ -28,6 +28,8 @@
 //! # Ok::<(), tuple::Refusal>(())
 //! ```
 //!
+//! A reference is a [`FactId`], made from a predicate below 2^24 and a sequence from 1 to 2^40 − 1; its raw number is predicate · 2^40 + sequence.
+//!
 //! Every call is total: it answers, or refuses with a [`Refusal`] that has a number, a name and a detail. None answers `NoRoom`: where the library does, the
 //! buffer is grown by what is needed and the call made again. The library uses at most 160 KB of the caller's stack, on the deepest types and values.
 

@@ -1,28 +1,37 @@
 use std::fmt;
 
 /// The low bits of a reference that are its sequence; the high ones are its predicate. The only place that names the split.
-const SEQUENCE_BITS: u32 = 32;
+pub(crate) const SEQUENCE_BITS: u32 = 40;
 const MAX_SEQUENCE: u64 = (1 << SEQUENCE_BITS) - 1;
 
-/// A predicate's number: what a reference refers to.
+/// A predicate's number: what a reference refers to. A type may name any; one of 2^24 or more matches no reference.
 #[derive(Debug, Clone, Copy, PartialEq, Eq, PartialOrd, Ord, Hash)]
 pub struct PredicateId(pub u32);
 
-/// A reference: a predicate (the high 32 bits) and a sequence (the low 32).
+/// A reference: a predicate (the high 24 bits) and a sequence (the low 40), which is not 0. Its raw number is predicate · 2^40 + sequence.
 ///
 /// ```
-/// use tuple::{FactId, PredicateId};
+/// use tuple::{FactId, PredicateId, Refusal, Type, Value, encode_key};
 ///
 /// let id = FactId::new(PredicateId(7), 1).unwrap();
-/// assert_eq!(id.raw(), 0x0000_0007_0000_0001);
+/// assert_eq!(id.raw(), 0x000007_0000000001);
 /// assert_eq!((id.predicate(), id.sequence()), (PredicateId(7), 1));
+/// assert_eq!(encode_key(&Type::Fact(PredicateId(7)), &Value::from(id)).unwrap(), [0x51, 0, 0, 7, 0, 0, 0, 0, 1]);
+///
+/// // there is no such reference
 /// assert_eq!(FactId::new(PredicateId(7), 0), None);
+/// assert_eq!(FactId::new(PredicateId(7), 1 << 40), None);
+/// assert_eq!(FactId::new(PredicateId(1 << 24), 1), None);
+///
+/// // a type may name such a predicate, but no reference matches it
+/// let refused = encode_key(&Type::Fact(PredicateId(1 << 24)), &Value::from(id));
+/// assert_eq!(refused, Err(Refusal::FactRefPredicate { found: 7 }));
 /// ```
 #[derive(Debug, Clone, Copy, PartialEq, Eq, PartialOrd, Ord, Hash)]
 pub struct FactId(u64);
 
 impl FactId {
-    /// The reference to this predicate with this sequence; none where the sequence is 0 or too large.
+    /// The reference to this predicate with this sequence; none where the predicate is 2^24 or more, or the sequence 0 or 2^40 or more.
     #[must_use]
     pub fn new(predicate: PredicateId, sequence: u64) -> Option<FactId> {
         if sequence == 0 || sequence > MAX_SEQUENCE || u64::from(predicate.0) > u64::MAX >> SEQUENCE_BITS {
@@ -135,7 +144,7 @@ pub enum Type {
     Str,
     /// any bytes
     Bytes,
-    /// a reference to this predicate
+    /// a reference to this predicate; of 2^24 or more there is none
     Fact(PredicateId),
     /// fields in order
     Record(Vec<Type>),
@@ -480,9 +489,15 @@ mod tests {
 
     #[test]
     fn the_split_of_a_reference() {
-        let greatest = FactId::new(PredicateId(u32::MAX), MAX_SEQUENCE).unwrap();
+        let greatest = FactId::new(PredicateId(0xFF_FFFF), 0xFF_FFFF_FFFF).unwrap();
         assert_eq!(greatest.raw(), u64::MAX);
-        assert_eq!(FactId::new(PredicateId(0), MAX_SEQUENCE + 1), None);
-        assert_eq!(FactId::from_raw(7 << SEQUENCE_BITS).sequence(), 0);
+        assert_eq!((greatest.predicate(), greatest.sequence()), (PredicateId(0xFF_FFFF), 0xFF_FFFF_FFFF));
+        assert_eq!(FactId::new(PredicateId(0x100_0000), 1), None);
+        assert_eq!(FactId::new(PredicateId(u32::MAX), 1), None);
+        assert_eq!(FactId::new(PredicateId(0), 0x100_0000_0000), None);
+        assert_eq!(FactId::from_raw(7 << 40).sequence(), 0);
+        // past 2^32 the number is the sequence's still
+        assert_eq!(FactId::new(PredicateId(7), 1 << 32).unwrap().raw(), 0x000007_0100000000);
+        assert_eq!((FactId::from_raw(1 << 32).predicate(), FactId::from_raw(1 << 32).sequence()), (PredicateId(0), 1 << 32));
     }
 }

@@ -29,7 +29,7 @@ fn values_and_their_bytes() {
         (Type::Str, Value::from("\0"), "21 00 FF 00"),
         (Type::record([]), Value::record([]), "22 00"),
         (Type::union([(1, Type::Int)]), Value::union(1, Value::Int(0)), "52 49 01 48 00"),
-        (Type::Fact(PredicateId(7)), Value::from(seven), "51 00 00 00 07 00 00 00 01"),
+        (Type::Fact(PredicateId(7)), Value::from(seven), "51 00 00 07 00 00 00 00 01"),
     ];
     for (ty, value, bytes) in specimens {
         assert_eq!(encode_typed(&ty, &value), Ok(hex(bytes)), "{value:?}");

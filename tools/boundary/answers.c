@@ -107,7 +107,7 @@ int main(void) {
     length("put_fact_id, past", tuple_put_fact_id(out, 16, 17, 1), TUPLE_NO_ROOM, 17, 0);
 
     const uint8_t group[] = {0x22, 0x00, 0xFF, 0x49, 0x07, 0x52, 0x49, 0x09, 0x47, 0xF6, 0x00, 0x00};
-    const uint8_t reference[] = {0x00, 0x51, 0, 0, 0, 3, 0, 0, 0, 5};
+    const uint8_t reference[] = {0x00, 0x51, 0, 0, 3, 0, 0, 0, 0, 5};
     const uint64_t deepest = UINT64_MAX;
     step("open_record", tuple_open_record(group, 12, 0, 6), 0, 0, 0, 1, 7);
     step("open_record, deepest", tuple_open_record(group, 12, 0, deepest), TUPLE_BAD_RECORD, 0, 0, 0, deepest);
@@ -118,7 +118,7 @@ int main(void) {
     step("open_union", tuple_open_union(group, 12, 5, 1), 0, 0, 9, 8, 2);
     step("take_i64", tuple_take_i64(group, 12, 8, 2), 0, 0, 0xFFFFFFFFFFFFFFF7, 10, 2);
     step("take_i64, past", tuple_take_i64(group, 12, 13, 2), TUPLE_UNEXPECTED_EOF, 0, 0, 13, 2);
-    step("take_fact_id", tuple_take_fact_id(reference, 10, 1, 4), 0, 0, 0x300000005, 10, 4);
+    step("take_fact_id", tuple_take_fact_id(reference, 10, 1, 4), 0, 0, tuple_fact_id(3, 5), 10, 4);
     number("is_record_end", tuple_is_record_end(group, 12, 10, 2), 0, 0, 1, 0);
     number("is_record_end, null", tuple_is_record_end(group, 12, 1, 1), 0, 0, 0, 0);
     number("is_record_end, past", tuple_is_record_end(group, 12, 12, 1), TUPLE_UNEXPECTED_EOF, 0, 0, 0);

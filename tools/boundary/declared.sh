@@ -1,6 +1,6 @@
 #!/bin/sh
 # That include/tuple.h declares what the library exports: writes the answers and the calls of crates/tuple in C's words, and compiles that beside the header.
-# A field, a size, a parameter or an answer that differs does not compile; a call or a refusal's number that only one of the two has is shown.
+# A field, a size, a parameter, an answer or a split of references that differs does not compile; a call or a refusal's number that only one of the two has is shown.
 set -eu
 cd "$(dirname "$0")/../.."
 made=$(mktemp -d)
@@ -55,6 +55,11 @@ diff "$made/in_header" "$made/in_library"
 sed -n 's/^    TUPLE_\([A-Z_]*\) = \([0-9]*\).*/\1 \2/p' include/tuple.h >"$made/numbers_in_header"
 { echo OK 0; sed -n '/^\/\/ The refusals/,$s/^pub const \([A-Z_]*\): u32 = \([0-9]*\);/\1 \2/p' crates/format/src/lib.rt; } >"$made/numbers_in_library"
 diff "$made/numbers_in_header" "$made/numbers_in_library"
-{ echo '#include "include/tuple.h"'; cat "$made/answers.c" "$made/calls.c"; } >"$made/declared.c"
+sequences=$(sed -n 's/^pub const SEQUENCES: u64 = \([0-9a-fx_]*\);$/\1/p' crates/format/src/lib.rt | tr -d _)
+{
+    echo '#include "include/tuple.h"'
+    cat "$made/answers.c" "$made/calls.c"
+    echo "_Static_assert((UINT64_C(1) << TUPLE_SEQUENCE_BITS) == $sequences, \"the split of a reference\");"
+} >"$made/declared.c"
 ${CC:-cc} -std=gnu11 -Wall -Wextra -Werror -I . -fsyntax-only "$made/declared.c"
 echo "$(wc -l <"$made/in_library") calls, 9 answers and $(($(wc -l <"$made/numbers_in_library") - 1)) refusals: the header declares what the library has"

@@ -57,6 +57,9 @@
 --
 -- Demand3      demand 3 of the request, in full
 -- BookExample  a list of replacements, computed by the call and by the book
+--
+-- What was requested later:
+-- ReferenceSplit   a reference is a predicate of 24 bits and a sequence of 40
 pub mod Specimens
 pub mod KeylistExample
 pub mod Bytes
@@ -103,3 +106,4 @@ pub mod TypeKinds
 pub mod ValueKinds
 pub mod Demand3
 pub mod BookExample
+pub mod ReferenceSplit

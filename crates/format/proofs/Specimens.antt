@@ -44,7 +44,7 @@ specimens =
     ∷ typed (Ty.Record Tys.NoTy) (Val.Record Vals.NoVal) (0x22 ∷ 0x00 ∷ []) 1
     ∷ key (Ty.Record Tys.NoTy) (Val.Record Vals.NoVal) [] 0
     ∷ typed (Ty.Union (Alts.AddAlt 1 Ty.Int Alts.NoAlt)) (Val.Union 1 (Val.Int 0)) (0x52 ∷ 0x49 ∷ 0x01 ∷ 0x48 ∷ 0x00 ∷ []) 2
-    ∷ typed (Ty.Ref 7) (Val.Ref (7 * 2 ^ sequenceBits + 1)) (0x51 ∷ 0x00 ∷ 0x00 ∷ 0x00 ∷ 0x07 ∷ 0x00 ∷ 0x00 ∷ 0x00 ∷ 0x01 ∷ []) 1
+    ∷ typed (Ty.Ref 7) (Val.Ref (7 * 2 ^ sequenceBits + 1)) (0x51 ∷ 0x00 ∷ 0x00 ∷ 0x07 ∷ 0x00 ∷ 0x00 ∷ 0x00 ∷ 0x00 ∷ 0x01 ∷ []) 1
     ∷ []
 
 pub specimens-agree : map computed specimens ≡ map stated specimens

@@ -21,3 +21,5 @@ pub mod Cursor
 pub mod Chars
 pub mod Demand3
 pub mod Keylist
+-- what was requested later, in the order of landing
+pub mod ReferenceSplit

@@ -49,7 +49,7 @@ refBytes r = 0x51 ∷ be 8 r
 
 -- the split of a reference: how many of its 64 bits, the low ones, are the sequence; the others are the predicate
 abbrev pub sequenceBits : ℕ
-sequenceBits = 32
+sequenceBits = 40
 
 abbrev pub predicateOf : ℕ → ℕ
 predicateOf r = r / 2 ^ sequenceBits

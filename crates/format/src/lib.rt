@@ -89,7 +89,7 @@ pub const MAX_POOL_BYTES: usize = 1048576;
 pub const DISCRIMINANTS: u64 = 4294967296;
 
 // How many sequences a predicate has: what a reference leaves divided by it is its sequence, how often it goes in its predicate.
-pub const SEQUENCES: u64 = 0x1_0000_0000;
+pub const SEQUENCES: u64 = 0x100_0000_0000;
 
 pub const PREDICATE_ID_SIZE: usize = 4;
 

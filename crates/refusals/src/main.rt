@@ -144,8 +144,8 @@ fn bad_record() {
 
 fn fact_ref_predicate() {
     show::text(b"8\n");
-    encode_line(&[4, 7], &[4, 0x8_0000_0001], b"");
-    encode_line(&[4, 7], &[4, 0x7_0000_0001], b"");
+    encode_line(&[4, 7], &[4, 0x800_0000_0001], b"");
+    encode_line(&[4, 7], &[4, 0x700_0000_0001], b"");
 }
 
 fn reserved_fact_id() {

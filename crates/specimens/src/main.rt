@@ -113,7 +113,7 @@ fn others() {
     let tag = UnionTag::new(1);
     let tagged = tag.bytes;
     show::line(&tagged, tag.len);
-    show::line(&scalar::fact_ref_bytes(0x7_0000_0001), 9);
+    show::line(&scalar::fact_ref_bytes(0x700_0000_0001), 9);
     strinc_line(b"\x53\x0a\x00");
     strinc_line(b"\x0a\xff");
     strinc_line(b"\xff");

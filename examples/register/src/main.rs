@@ -22,6 +22,9 @@ const TANKS: [(&[u8], &str, &[i64]); 5] = [
     (b"\x0B", "black", &[90]),
 ];
 
+/// The sequence of the first batch's reference: the register numbers past 2^32, and so do these batches.
+const FIRST: u64 = (1 << 32) - 4;
+
 const LINES: [(&str, i64, &[u8], i64); 9] = [
     ("yellow", 1, b"\x0A", 4_000),
     ("yellow", 2, b"\x0A", 250),
@@ -75,7 +78,7 @@ fn load(store: &Store, tables: &Tables, random: &mut Random) -> Answer<BTreeMap<
     for (tag, ink, numbers) in TANKS {
         changes.push(Change::Put(tables.tanks.stored(&Value::record([Value::from(tag)]))?, ink.into()));
         for number in numbers {
-            let id = FactId::new(tables.batches.predicate, batches.len() as u64 + 1).ok_or("no reference left")?;
+            let id = FactId::new(tables.batches.predicate, FIRST + batches.len() as u64).ok_or("no reference left")?;
             let value = batch(tag, *number);
             changes.push(Change::Put(tables.batches.stored(&value)?, id.raw().to_be_bytes().into()));
             batches.insert(id, value);
@@ -228,6 +231,7 @@ fn replacements(store: &Store, tables: &Tables, batches: &BTreeMap<FactId, Value
     let (cyan, _) = batches.iter().find(|(_, value)| **value == batch(b"\x0A\x00", 18)).ok_or("batch 18 is missing")?;
     let grams = |number| dose(*cyan, "cyan", Value::union(1, Value::Int(number)));
     let elsewhere = FactId::new(PredicateId(3), 1).ok_or("no reference")?;
+    let before = FactId::from_raw((2 << 32) + 5); // 2:5 while both halves had 32 bits
     let long = "x".repeat(65_530);
     let mut rows = Vec::new();
     for (table, old, place, new) in [
@@ -241,6 +245,7 @@ fn replacements(store: &Store, tables: &Tables, batches: &BTreeMap<FactId, Value
         (&tables.batches, batch(b"\x0B", 90), 1, Value::from("ninety")),
         (&tables.batches, batch(b"\x0B", 90), 2, Value::Int(91)),
         (&tables.doses, grams(255), 0, Value::from(elsewhere)),
+        (&tables.doses, grams(255), 0, Value::from(before)),
         (&tables.doses, grams(255), 2, Value::union(3, Value::Int(255))),
         (&tables.lines, line("black", 2, b"\x0B", 0), 0, Value::from(long.as_str())),
     ] {
@@ -264,10 +269,11 @@ fn replacements(store: &Store, tables: &Tables, batches: &BTreeMap<FactId, Value
         &["table", "key", "field", "new value", "key afterwards", "right"],
         &rows,
     );
+    println!("\n  {} is 2:5 as it stood with 32 bits for the predicate and 32 for the sequence", shown(&Value::from(before)));
     let due = [batch(b"\x0C\x00", 17), batch(b"\x0C\x00", 18)];
     let moved = found(store, &tables.batches, &tables.batches.range(&due[0], 1)?)? == due;
     let left = found(store, &tables.batches, &tables.batches.range(&batch(b"\x0A\x00", 0), 1)?)?.is_empty();
-    println!("\n  tank 0C 00 has the batches 17 and 18, tank 0A 00 has none: {}", checks.yes(moved && left));
+    println!("  tank 0C 00 has the batches 17 and 18, tank 0A 00 has none: {}", checks.yes(moved && left));
     Ok(())
 }
 
@@ -289,7 +295,7 @@ impl Random {
         }
     }
 
-    /// A value of the type: tags and texts that are often alike but for a zero, numbers at the changes of width.
+    /// A value of the type: tags and texts that are often alike but for a zero, numbers at the changes of width, sequences round 2^32 too.
     fn value(&mut self, ty: &Type) -> Value {
         match ty {
             Type::Int => {
@@ -298,7 +304,10 @@ impl Random {
             }
             Type::Str => Value::Str((0..self.below(6)).map(|_| ['\0', 'a', 'b', ' ', 'é', '€'][self.below(6)]).collect()),
             Type::Bytes => Value::Bytes((0..1 + self.below(5)).map(|_| [0x00, 0x00, 0x01, 0x0A, 0xFF][self.below(5)]).collect()),
-            Type::Fact(predicate) => Value::FactRef(FactId::new(*predicate, 1 + self.below(300) as u64).expect("a sequence from 1 to 300")),
+            Type::Fact(predicate) => {
+                let sequence = [1, (1 << 32) - 150, (1 << 40) - 300][self.below(3)] + self.below(300) as u64;
+                Value::FactRef(FactId::new(*predicate, sequence).expect("a sequence from 1 to 2^40 - 1"))
+            }
             Type::Record(fields) => Value::record(fields.iter().map(|field| self.value(field))),
             Type::Union(alternatives) => {
                 let alternative = &alternatives[self.below(alternatives.len())];

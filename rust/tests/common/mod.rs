@@ -52,7 +52,7 @@ impl Random {
     }
 
     fn id(&mut self, predicate: PredicateId) -> FactId {
-        let sequence = self.pick(&[1, 2, 255, 256, 0xFFFF_FFFF]);
+        let sequence = self.pick(&[1, 2, 255, 256, 0xFFFF_FFFF, 0x1_0000_0000, 0xFF_FFFF_FFFF]);
         FactId::new(predicate, sequence).unwrap()
     }
 

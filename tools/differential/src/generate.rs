@@ -40,7 +40,8 @@ pub fn predicate(random: &mut Random) -> u32 {
 
 fn sequence(random: &mut Random) -> u64 {
     match random.below(4) {
-        0 | 1 => 1 + random.below(5) as u64,
+        0 => 1 + random.below(5) as u64,
+        1 => (1 << 32) - 1 + random.below(3) as u64, // past 2^32, where the split was before
         2 => MAX_FACT_SEQUENCE - random.below(2) as u64,
         _ => (random.next() & MAX_FACT_SEQUENCE).max(1),
     }
@@ -208,9 +209,10 @@ pub fn unfit(random: &mut Random, val: &mut Val) {
         }
         (0..=1, Val::Union(disc, _)) => *disc = u64::from(self::disc(random)),
         (0..=1, Val::Reference(raw)) => {
-            *raw = match random.below(3) {
+            *raw = match random.below(4) {
                 0 => *raw & !MAX_FACT_SEQUENCE,
                 1 => raw.wrapping_add(1 << SEQUENCE_BITS),
+                2 => *raw & !0xFFFF_FFFF, // a sequence that is 0 in its low 32 bits alone
                 _ => random.next(),
             }
         }
@@ -266,7 +268,7 @@ pub fn spoil_type(random: &mut Random, words: &mut Vec<u32>) {
 }
 
 /// Fields that no value encodes to, or of another kind than is due: for each refusal of a decoder some.
-const ILL_FIELDS: [&[u8]; 30] = [
+const ILL_FIELDS: [&[u8]; 31] = [
     b"",
     b"\x00",
     b"\x00\xFF",
@@ -291,8 +293,9 @@ const ILL_FIELDS: [&[u8]; 30] = [
     b"\x50\x80\x00\x00\x00\x00\x00\x00\x00",
     b"\x50\xFF\xFF\xFF\xFF\xFF\xFF\xFF\xFF",
     b"\x51\x00\x00\x00\x00\x00\x00\x00\x00",
-    b"\x51\x00\x00\x00\x07\x00\x00\x00\x00",
-    b"\x51\x00\x00\x00\x63\x00\x00\x00\x01",
+    b"\x51\x00\x00\x07\x00\x00\x00\x00\x00",
+    b"\x51\x00\x00\x63\x00\x00\x00\x00\x01",
+    b"\x51\x00\x00\x00\x07\x00\x00\x00\x01", // predicate 7 before the split was 24 and 40
     b"\x52\x49\x63\x48\x00",
     b"\x52\x49\x00\x48\x00",
     b"\x52\x4D\x01\x00\x00\x00\x01\x48\x00",
@@ -307,8 +310,8 @@ pub fn ill_form(random: &mut Random, val: &mut Val) {
         // of the kind that is due
         (0 | 1, Val::Int(_)) => Val::Raw(random.pick(&ILL_FIELDS[12..23]).to_vec()),
         (0 | 1, Val::Str(_)) => Val::Raw(random.pick(&ILL_FIELDS[3..9]).to_vec()),
-        (0 | 1, Val::Reference(_)) => Val::Raw(random.pick(&ILL_FIELDS[23..26]).to_vec()),
-        (0 | 1, Val::Union(..)) => Val::Raw(random.pick(&ILL_FIELDS[26..29]).to_vec()),
+        (0 | 1, Val::Reference(_)) => Val::Raw(random.pick(&ILL_FIELDS[23..27]).to_vec()),
+        (0 | 1, Val::Union(..)) => Val::Raw(random.pick(&ILL_FIELDS[27..30]).to_vec()),
         _ => Val::Raw(random.pick(&ILL_FIELDS).to_vec()),
     };
 }

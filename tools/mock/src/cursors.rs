@@ -2,9 +2,9 @@
 
 use crate::faults::{Fault, has};
 use crate::fields::{Number, bytes_of, place, put};
-use crate::{Length, by_original, given, lent};
+use crate::{Length, by_original, cut_to_0, given, lent};
 use fjord_encoding::tuple;
-use oracle::refusal::{BAD_RECORD, Refusal, UNEXPECTED_EOF, UNEXPECTED_MARK, UNEXPECTED_TERMINATOR};
+use oracle::refusal::{BAD_RECORD, RESERVED_FACT_ID, Refusal, UNEXPECTED_EOF, UNEXPECTED_MARK, UNEXPECTED_TERMINATOR};
 
 const MAX_DEPTH: usize = 256;
 
@@ -97,6 +97,9 @@ pub unsafe extern "C" fn tuple_take_u64(bytes: *const u8, bytes_len: usize, at: 
 pub unsafe extern "C" fn tuple_take_fact_id(bytes: *const u8, bytes_len: usize, at: usize, depth: usize) -> Step {
     reading(bytes, bytes_len, at, depth, |rest, depth| {
         let id = by_original(tuple::TupleDecoder::new(rest).take_fact_id())?;
+        if has(Fault::SequenceCut) && cut_to_0(id) {
+            return Err((RESERVED_FACT_ID, 0));
+        }
         Ok((id.raw(), 9, depth))
     })
 }

@@ -8,9 +8,11 @@ mod keys;
 
 use faults::{Fault, has};
 use fjord_encoding::tuple::{self, Value};
+use fjord_schema::id::FactId;
 use fjord_schema::schema::PredicateTy;
 use oracle::refusal::{
-    BAD_RECORD, BAD_TYPE, BAD_UNION, BAD_VALUE, KEY_TOO_LONG, NO_BOUND, NO_ROOM, RESERVED_FACT_ID, Refusal, UNKNOWN_DISCRIMINANT, refusal,
+    BAD_RECORD, BAD_TYPE, BAD_UNION, BAD_VALUE, FACT_REF_PREDICATE, KEY_TOO_LONG, NO_BOUND, NO_ROOM, RESERVED_FACT_ID, Refusal,
+    UNKNOWN_DISCRIMINANT, refusal,
 };
 use oracle::sheet::{admit_type, admit_value, write_sheet};
 
@@ -112,6 +114,23 @@ fn the_value(words: &[u64], pool: &[u8]) -> Result<Value, Refusal> {
 
 // ---- encoding
 
+/// A reference at the top under its declared predicate, with the faults of judging one.
+fn judged(id: FactId, declared: u32, encoded: Result<Vec<u8>, Refusal>) -> Result<Vec<u8>, Refusal> {
+    let (found, declared) = (u64::from(id.predicate().0), u64::from(declared));
+    match encoded {
+        Err((RESERVED_FACT_ID, _)) if has(Fault::PredicateFirst) && found != declared => Err((FACT_REF_PREDICATE, found)),
+        Err((FACT_REF_PREDICATE, _)) if has(Fault::PredicateDeclared) => Err((FACT_REF_PREDICATE, declared)),
+        Err((FACT_REF_PREDICATE, _)) if has(Fault::PredicateCut) && found == declared & 0xFF_FFFF => Ok(tuple::fact_ref_bytes(id).to_vec()),
+        _ if has(Fault::SequenceCut) && cut_to_0(id) => Err((RESERVED_FACT_ID, 0)),
+        encoded => encoded,
+    }
+}
+
+/// Is the sequence 0 once it is cut to 32 bits?
+pub(crate) fn cut_to_0(id: FactId) -> bool {
+    id.raw() & 0xFFFF_FFFF == 0
+}
+
 fn encode(words: &[u32], values: &[u64], pool: &[u8], out: &mut [u8], key: bool) -> Result<usize, Refusal> {
     let ty = the_type(words)?;
     if has(Fault::RoomFirst) && out.is_empty() {
@@ -128,11 +147,8 @@ fn encode(words: &[u32], values: &[u64], pool: &[u8], out: &mut [u8], key: bool)
     {
         *tag = u64::from(*disc);
     }
-    if has(Fault::PredicateFirst)
-        && let (Err((RESERVED_FACT_ID, _)), Value::FactRef(id), PredicateTy::Fact(predicate)) = (&encoded, &value, &ty)
-        && id.predicate() != *predicate
-    {
-        encoded = Err((8, u64::from(id.predicate().0)));
+    if let (Value::FactRef(id), PredicateTy::Fact(predicate)) = (&value, &ty) {
+        encoded = judged(*id, predicate.0, encoded);
     }
     if has(Fault::KeyLimit) && matches!(encoded, Err((KEY_TOO_LONG, 65_532))) {
         encoded = by_original(tuple::encode_typed(&ty, &value));

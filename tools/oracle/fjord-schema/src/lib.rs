@@ -5,7 +5,7 @@ pub mod id {
 
     /// The split of a reference: the low bits of raw that are its sequence; the high ones are its predicate.
     /// The only place that names it.
-    pub const SEQUENCE_BITS: u32 = 32;
+    pub const SEQUENCE_BITS: u32 = 40;
 
     pub const MAX_FACT_SEQUENCE: u64 = (1 << SEQUENCE_BITS) - 1;
     pub const MAX_TAGGABLE_PREDICATE: u32 = (u64::MAX >> SEQUENCE_BITS) as u32;
