@@ -59,6 +59,7 @@ static inline uint64_t tuple_fact_id(uint32_t predicate, uint64_t sequence) {
     bool none = predicate >> (64 - TUPLE_SEQUENCE_BITS) != 0 || sequence == 0 || sequence >> TUPLE_SEQUENCE_BITS != 0;
     return none ? 0 : (uint64_t)predicate << TUPLE_SEQUENCE_BITS | sequence;
 }
+/* the two halves of a raw number */
 static inline uint32_t tuple_fact_predicate(uint64_t raw) {
     return (uint32_t)(raw >> TUPLE_SEQUENCE_BITS);
 }
