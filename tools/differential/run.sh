@@ -10,7 +10,8 @@ fi
 TUPLE_LIB=$(cd "$1" && pwd)
 export TUPLE_LIB
 shift
-cd "$(dirname "$0")/.."
-cargo build --release --offline -q -p differential --bin differential --no-default-features \
-    --features "${TUPLE_PARTS:-scalars,encode,decode,skip,order,keys,cursors,chars}"
-exec target/release/differential "$@"
+tools=$(cd "$(dirname "$0")/.." && pwd)
+# cargo's settings stand in tools/; the arguments' files are where the caller is
+(cd "$tools" && cargo build --release --offline -q -p differential --bin differential --no-default-features \
+    --features "${TUPLE_PARTS:-scalars,encode,decode,skip,order,keys,cursors,chars}")
+exec "$tools/target/release/differential" "$@"
