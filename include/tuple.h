@@ -34,7 +34,7 @@ enum {
     TUPLE_BAD_INTEGER = 5,           /* not the shortest form */
     TUPLE_BAD_RECORD = 6,            /* the wrong number of fields, or a group opened at depth 256 */
     TUPLE_KEY_TOO_LONG = 7,          /* a key over 65,531 bytes; detail: its length */
-    TUPLE_FACT_REF_PREDICATE = 8,    /* a reference to another predicate than the type's (tuple_fact_id makes one); detail: the predicate found */
+    TUPLE_FACT_REF_PREDICATE = 8,    /* a reference to another predicate than the type's (see tuple_fact_id); detail: the predicate found */
     TUPLE_RESERVED_FACT_ID = 9,      /* a reference with sequence 0 */
     TUPLE_UNKNOWN_DISCRIMINANT = 10, /* the union type has no such alternative; detail: the tag */
     TUPLE_TYPE_MISMATCH = 11,        /* a value of another kind than its type; detail: the type's kind */
