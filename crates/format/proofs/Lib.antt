@@ -60,6 +60,7 @@
 --
 -- What was requested later:
 -- ReferenceSplit   a reference is a predicate of 24 bits and a sequence of 40
+-- SearchLaws   how many alternatives the search for a discriminant looks at
 pub mod Specimens
 pub mod KeylistExample
 pub mod Bytes
@@ -107,3 +108,4 @@ pub mod ValueKinds
 pub mod Demand3
 pub mod BookExample
 pub mod ReferenceSplit
+pub mod SearchLaws

@@ -23,3 +23,4 @@ pub mod Demand3
 pub mod Keylist
 -- what was requested later, in the order of landing
 pub mod ReferenceSplit
+pub mod Search
