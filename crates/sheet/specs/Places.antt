@@ -8,6 +8,7 @@ use Rattle.format.specs.Tree.{Ty, Alts}
 use Rattle.format.specs.Sheet.{altCount}
 use Rattle.format.specs.TypeSheet.{maxGroups, Part, got, no, nesting, altNestings}
 use Rattle.format.specs.ValueSheet.{Parts, valueAt}
+use Rattle.format.specs.Search.{looked}
 use Rattle.format.proofs.TypePlaces.{TypeIn, AltsIn}
 use Rattle.format.proofs.Choose.{choose}
 
@@ -37,3 +38,8 @@ Chosen w e r l none = r ≡ 0
 -- the same, whatever union stands at `at`
 pub record Picks (w : List ℕ) (at tag r l : ℕ) : Type 0 where
   pub picks : (us : Alts) (e : ℕ) → TypeIn w at (Ty.Union us) e → nesting (Ty.Union us) ≤ maxGroups → Chosen w e r l (choose tag us)
+
+-- the answer of the search: what it picks, and how many alternatives n it looked at
+pub record Searches (w : List ℕ) (at tag r l n : ℕ) : Type 0 where
+  pub picks : Picks w at tag r l
+  pub looks : (us : Alts) (e : ℕ) → TypeIn w at (Ty.Union us) e → nesting (Ty.Union us) ≤ maxGroups → n ≡ looked tag us

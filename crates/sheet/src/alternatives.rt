@@ -3,25 +3,29 @@ use crate::types::alternatives_end;
 use crate::types::type_end;
 ghost use mathlib.Core.Path.{_≡_};
 ghost use mathlib.Core.Bool.{true};
-ghost use Rattle.sheet.specs.Places.{Picks, SkipsAlts};
+ghost use Rattle.sheet.specs.Places.{Searches, SkipsAlts};
 
-// An alternative of a union: the place of its type, 0 for none, and how many alternatives stand behind it.
+// What the search for a tag gives: the place of the alternative's type, 0 for none; how many alternatives stand behind it; how many were looked at, which is its
+// place from 1, or all of them.
 pub struct Choice {
     pub place: usize,
     pub left: u32,
+    pub looked: u32,
 }
 
-// The first alternative with the tag, of the union at `at` of an admitted sheet. Steps over the alternatives before it.
+// The first alternative with the tag, of the union at `at` of an admitted sheet. It looks at none behind that one.
 pub fn alternative(ty: &[u32], at: usize, tag: u64) -> Choice
-    ensures { λ r. ⌜ Picks (now (ty .entry)) at tag (r .place) (r .left) ⌝ }
+    ensures { λ r. ⌜ Searches (now (ty .entry)) at tag (r .place) (r .left) (r .looked) ⌝ }
 {
-    if at >= ty.len() {
-        return Choice { place: 0, left: 0 };
-    }
-    if ty.len() - at < 2 {
-        return Choice { place: 0, left: 0 };
+    if at >= ty.len() || ty.len() - at < 2 {
+        return Choice {
+            place: 0,
+            left: 0,
+            looked: 0,
+        };
     }
     let mut left = ty[at + 1];
+    let mut looked: u32 = 0;
     let mut place = at + 2;
     let found = loop {
         if left == 0 {
@@ -31,6 +35,7 @@ pub fn alternative(ty: &[u32], at: usize, tag: u64) -> Choice
             break 0;
         }
         left -= 1;
+        looked += 1;
         let inside = place + 1;
         if format::wide_word(ty[place]) == tag {
             break inside;
@@ -40,7 +45,11 @@ pub fn alternative(ty: &[u32], at: usize, tag: u64) -> Choice
             break 0;
         }
     };
-    Choice { place: found, left }
+    Choice {
+        place: found,
+        left,
+        looked,
+    }
 }
 
 // The place behind `count` alternatives from `at` on, of an admitted sheet.

@@ -1,4 +1,6 @@
 // Runs the specimens of document 01 that need single fields and sheets alone, and prints what the code answers: bytes in hexadecimal, or refusal and detail.
+mod searches; // searches.rt: the search for a discriminant, and how many alternatives it looks at
+
 use format::Length;
 use scalar::GotInt;
 use scalar::GotPart;
@@ -126,4 +128,5 @@ fn main() {
     strings();
     sheets();
     others();
+    searches::searches();
 }

@@ -271,7 +271,7 @@ fit-value-returns-7 t c =
     let c₃ = c₂ .before .before in
     let c₄ = c₃ .before in
     let same = c₃ .if1 .left ∙ c₄ .wide-word .ensures in
-    laws.no-alternative same (omega (arith, c₂ .if2 .left, c₁ .if3 .left)) (c .before .before .if4 .left) (c .before .alternative .ensures) (c .if7 .taken)
+    laws.no-alternative same (omega (arith, c₂ .if2 .left, c₁ .if3 .left)) (c .before .before .if4 .left) (c .before .alternative .ensures .picks) (c .if7 .taken)
 
 fit-value-returns-8 : fit-value-need fit-value-lts.Need-returns-8
 fit-value-returns-8 t c =
@@ -281,7 +281,7 @@ fit-value-returns-8 t c =
     let c₄ = c₃ .before .before in
     let c₅ = c₄ .before in
     let same = c₄ .if1 .left ∙ c₅ .wide-word .ensures in
-    laws.deep-union same (omega (arith, c₃ .if2 .left, c₂ .if3 .left)) (c₁ .if4 .left) (c .before .before .alternative .ensures) (c .before .if7 .left) (c .if8 .taken)
+    laws.deep-union same (omega (arith, c₃ .if2 .left, c₂ .if3 .left)) (c₁ .if4 .left) (c .before .before .alternative .ensures .picks) (c .before .if7 .left) (c .if8 .taken)
 
 fit-value-add-fit-value : fit-value-need fit-value-lts.Need-add-fit-value
 fit-value-add-fit-value t c = search needs
@@ -299,7 +299,7 @@ fit-value-fit-value-requires t c κs =
     let c₆ = c₅ .before .before .before .before .before .before in
     let s = c₆ .pre .1 in
     let same = c₄ .if1 .left ∙ c₅ .wide-word .ensures in
-    (omega (arith, c₆ .pre .0, laws.word-second s same), laws.payload-stands same (omega (arith, c₃ .if2 .left, c₂ .if3 .left)) (c₁ .if4 .left) (c .before .before .alternative .ensures) s (c .before .if7 .left))
+    (omega (arith, c₆ .pre .0, laws.word-second s same), laws.payload-stands same (omega (arith, c₃ .if2 .left, c₂ .if3 .left)) (c₁ .if4 .left) (c .before .before .alternative .ensures .picks) s (c .before .if7 .left))
 
 fit-value-in-union-requires : fit-value-need fit-value-lts.Need-in-union-requires
 fit-value-in-union-requires t c κs =
@@ -315,7 +315,7 @@ fit-value-returns-9 t c =
     let c₆ = c₅ .before .before in
     let c₇ = c₆ .before in
     let same = c₆ .if1 .left ∙ c₇ .wide-word .ensures in
-    laws.in-union same (omega (arith, c₅ .if2 .left, c₄ .if3 .left)) (c₃ .if4 .left) (c₂ .alternative .ensures) (c₁ .if7 .left) (c .before .before .if8 .left) (c .before .fit-value .ensures) (c .in-union .ensures)
+    laws.in-union same (omega (arith, c₅ .if2 .left, c₄ .if3 .left)) (c₃ .if4 .left) (c₂ .alternative .ensures .picks) (c₁ .if7 .left) (c .before .before .if8 .left) (c .before .fit-value .ensures) (c .in-union .ensures)
 
 pub +fit-fields+fit-value-spec : {M : Type 1} → statement M
 +fit-fields+fit-value-spec = close μ-fit-fields μ-fit-value (λ t. fit-fields-lts.spec (fit-fields-claims t)

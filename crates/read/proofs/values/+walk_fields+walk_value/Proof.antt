@@ -137,7 +137,7 @@ in-union : (t : ℕ) (c : walk-value-lts.After-alternative (walk-value-claims t)
     laws.InUnion (a .ty .now) (a .at) (a .bytes .now) (a .i) (a .depth) (g .tag .given .0 .0) (g .tag .given .0 .1 .0) (c .alternative .result .place) (c .alternative .result .left)
 in-union t c =
     let g = c .before .before in
-    record { o = g .before .before .open-union .result; opened = opened-union t (g .before .before); tagged = g .tag .given .1; picks = c .alternative .ensures }
+    record { o = g .before .before .open-union .result; opened = opened-union t (g .before .before); tagged = g .tag .given .1; picks = c .alternative .ensures .picks }
 
 abbrev walk-fields-need : (walk-fields-lts.Claims → In 2 walk-fields-kinds.ps → Out 2 walk-fields-kinds.ps walk-fields-kinds.r → walk-fields-lts.InvT-loop → walk-fields-lts.MeasureT-loop → Type 0) → Type 0
 walk-fields-need N = (t : ℕ) → N (walk-fields-claims t) (walk-fields-at t) walk-fields.Post walk-fields-Inv-loop walk-fields-μ-loop
