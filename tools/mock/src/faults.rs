@@ -36,6 +36,8 @@ faults! {
     PredicateCut "predicate-cut",
     SequenceCut "sequence-cut",
     TagCut "tag-cut",
+    LastMatch "last-match",
+    SearchOf64 "search-of-64",
     BegunOnRoom "begun-on-room",
     BegunOnEnd "begun-on-end",
     KeyLimit "key-limit",

@@ -98,7 +98,16 @@ fn the_type(words: &[u32]) -> Result<PredicateTy, Refusal> {
     if has(Fault::Groups321) && nested_records(words) == 321 {
         return admit_type(&words[2..]).ok_or((BAD_TYPE, 0));
     }
-    admit_type(words).ok_or((BAD_TYPE, 0))
+    admit_type(words).map(searched).ok_or((BAD_TYPE, 0))
+}
+
+/// With the faults, the last alternative with a discriminant counts, or only the first 64 are looked at, in a union at the top.
+fn searched(ty: PredicateTy) -> PredicateTy {
+    match ty {
+        PredicateTy::Union(alternatives) if has(Fault::LastMatch) => PredicateTy::Union(alternatives.iter().rev().cloned().collect()),
+        PredicateTy::Union(alternatives) if has(Fault::SearchOf64) => PredicateTy::Union(alternatives.iter().take(64).cloned().collect()),
+        ty => ty,
+    }
 }
 
 fn nested_records(words: &[u32]) -> usize {
