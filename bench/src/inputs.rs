@@ -93,3 +93,12 @@ pub fn all() -> Vec<Input> {
     list.push(Input { name: "200 nested records", ty, values: vec![(words, vec![])] });
     list
 }
+
+/// One of ninety Ints, by its place from 1: what an alternative more costs the search.
+pub fn doses() -> Vec<Input> {
+    let mut ty = vec![5, 1, 6, 90];
+    ty.extend((1..=90).flat_map(|disc| [disc, 1]));
+    [("dose 1", 1), ("dose 2", 2), ("dose 8", 8), ("dose 9", 9), ("dose 89", 89), ("dose 90", 90)]
+        .map(|(name, disc)| Input { name, ty: ty.clone(), values: vec![(vec![5, 1, 6, disc, 1, 7], vec![])] })
+        .into()
+}

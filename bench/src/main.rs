@@ -3,7 +3,8 @@
 //! The library is given sheets, which each call admits, and buffers lent once, which decoding fills. The original is given its own types and values, built
 //! before, and allocates what it answers; the time to free that counts. The third time is the original's with what the library's includes: its sheets
 //! admitted to types and values first, a decoded value written to a sheet in buffers lent once. Bounds and replacement are the original's decode, change
-//! and encode. The argument `growth` shows how time grows with the size of a value instead, `counts` the instructions by callgrind.
+//! and encode. The argument `growth` shows how time grows with the size of a value instead, `counts` the instructions by callgrind, `dose` the alternatives
+//! of a union by their places in place of the inputs.
 
 mod clock;
 mod counts;
@@ -36,7 +37,7 @@ fn run(wanted: &[String]) {
     {
         return counts::run(words);
     }
-    let inputs = inputs::all();
+    let inputs = if wanted.iter().any(|word| word == "dose") { inputs::doses() } else { inputs::all() };
     if !counts::inside() {
         println!("| call | input | key bytes | Rust ns | ours ns | ours / Rust | Rust from sheets ns | ours / that |\n|-|-|-|-|-|-|-|-|");
     }

@@ -1,7 +1,7 @@
 #!/bin/sh
 # That include/tuple.h declares what the library exports: writes the answers and the calls of crates/tuple in C's words, and compiles that beside the header.
 # A field, a size, a parameter, an answer or a split of references that differs does not compile; a call or a refusal's number that only one of the two has is shown, and so is
-# a file of the code that names the split beside the constant and its one user.
+# a file of the code that names the split beside the constant and its one user, or a second line that compares a discriminant with a tag.
 set -eu
 cd "$(dirname "$0")/../.."
 made=$(mktemp -d)
@@ -58,6 +58,8 @@ sed -n 's/^    TUPLE_\([A-Z_]*\) = \([0-9]*\).*/\1 \2/p' include/tuple.h >"$made
 diff "$made/numbers_in_header" "$made/numbers_in_library"
 grep -rlE 'SEQUENCES|0x100_?0000_?0000|1_?099_?511_?627_?776|(<<|>>) ?40' crates/*/src --include='*.rt' | sort >"$made/split"
 printf 'crates/%s\n' format/src/lib.rt scalar/src/refs.rt | diff - "$made/split"
+grep -rnE '[!=]= tag\b|\btag [!=]=' crates/*/src --include='*.rt' | sed 's/:.*//' >"$made/searches"
+echo crates/sheet/src/alternatives.rt | diff - "$made/searches"
 sequences=$(sed -n 's/^pub const SEQUENCES: u64 = \([0-9a-fx_]*\);$/\1/p' crates/format/src/lib.rt | tr -d _)
 {
     echo '#include "include/tuple.h"'
