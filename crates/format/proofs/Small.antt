@@ -8,13 +8,10 @@ use lib.ListN.{length, drop, getD, List·getD-append, List·getD-eq-default}
 use lib.Seq.{getD-drop}
 use Rattle.format.specs.Tree.{Ty, Tys, Alts, Val, Vals}
 use Rattle.format.specs.Sheet.{tyWords, valWords, valPool}
+use Rattle.format.specs.Bounds.{Below}
 use Rattle.format.proofs.SheetPlaces.{Span}
 use Rattle.format.proofs.TypePlaces.{TypeIn, TypesIn, AltsIn, record-in, union-in, ref-in, field-in, alt-in}
 use Rattle.format.proofs.ValuePlaces as values
-
--- every element is below n
-abbrev pub Below : ℕ → List ℕ → Type 0
-Below n l = (i : ℕ) → getD l i 0 < n
 
 unfoldable mutual
   pub Small : Ty → Type 0

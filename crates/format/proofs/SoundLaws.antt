@@ -1,12 +1,13 @@
 -- The value of an admitted sheet is sound: its words are of 64 bits, its pool is of bytes, and its strings were judged.
-use Prim.Native.Nat.{ℕ, suc, _<_, _^_}
+use Prim.Native.Nat.{ℕ, suc, _^_}
 use mathlib.Core.List.{List, [], _∷_}
 use native.Mathlib.Omega.{arith}
-use lib.ListN.{length, getD}
+use lib.ListN.{length}
 use Rattle.format.specs.Tree.{Val, Vals}
 use Rattle.format.specs.ValueSheet.{Proper, AllProper, Admitted}
+use Rattle.format.specs.Bounds.{Below}
 use Rattle.format.proofs.Bytes.{AllBytes}
-use Rattle.format.proofs.Small.{Below, SmallVal, SmallVals, small-value}
+use Rattle.format.proofs.Small.{SmallVal, SmallVals, small-value}
 use Rattle.format.proofs.Sound.{Sound, AllSound}
 use Rattle.format.proofs.ValuePlaces.{top}
 

@@ -1,9 +1,10 @@
 -- The ends of ranges of keys: strinc, above_field, and the two ends of the keys with the same first k fields.
-use Prim.Native.Nat.{ℕ, zero, suc, Ordering·lt, Ordering·gt}
+use Prim.Native.Nat.{ℕ, zero, suc, _<_, Ordering·lt, Ordering·gt}
 use mathlib.Core.Path.{_≡_}
 use mathlib.Core.Logic.{_≢_}
 use mathlib.Core.List.{List, [], _∷_, _++_}
 use lib.Dec.{eqb}
+use lib.ListN.{getD}
 use Rattle.format.specs.Answer.{if, Answer, ok, refused, NoBound}
 use Rattle.format.specs.Tree.{Vals}
 use Rattle.format.specs.Encode.{valsBytes}
@@ -32,6 +33,10 @@ raisedOr (b ∷ bs) = ok (raised (b ∷ bs))
 -- strinc drops trailing FF and adds one to the last byte left; where none is left it is NoBound
 unfoldable pub strinc : List ℕ → Answer (List ℕ)
 strinc p = raisedOr (trimmed p)
+
+-- every number is below n, as the code's types hold them: u64 words, u8 bytes
+abbrev pub Below : ℕ → List ℕ → Type 0
+Below n l = (i : ℕ) → getD l i 0 < n
 
 -- above_field adds FF
 abbrev pub aboveField : List ℕ → List ℕ

@@ -1,26 +1,23 @@
 -- Demand 3, as claims about the very definitions that the contracts of encode_key, replacement and the bounds call cite (proofs/Demand3 has the proofs).
-use Prim.Native.Nat.{ℕ, _≤_, _<_, _^_}
+use Prim.Native.Nat.{ℕ, _≤_, _^_}
 use mathlib.Core.List.{List, [], _∷_}
 use mathlib.Core.Option.{some}
 use mathlib.Core.Path.{_≡_}
 use mathlib.Core.Logic.{_↔_}
-use lib.ListN.{length, take, getD}
+use lib.ListN.{length, take}
 use Rattle.format.specs.Answer.{ok, refused}
 use Rattle.format.specs.Tree.{Ty, Tys, Val, fieldsIn}
 use Rattle.format.specs.Sheet.{fieldCount, valWords, valPool}
 use Rattle.format.specs.TypeSheet.{typeOf}
 use Rattle.format.specs.ValueSheet.{valueOf}
 use Rattle.format.specs.Order.{cmpBytes, cmpVal}
-use Rattle.format.specs.Bounds.{aboveField, firsts, firstBytes, Between}
+use Rattle.format.specs.Bounds.{Below, aboveField, firsts, firstBytes, Between}
 use Rattle.format.specs.Calls.{over, encodeKeyCall, compareCall, boundsCall}
 use Rattle.format.specs.Book.{Call, Book, callOn, runCalls, leftBy, leftIn, entered, runBook, bookAfter}
 
 -- ---- what the claims are about
 
 -- numbers as the code's types hold them: u64 words and u8 bytes
-abbrev pub Below : ℕ → List ℕ → Type 0
-Below n l = (i : ℕ) → getD l i 0 < n
-
 abbrev pub Held : (words pool : List ℕ) → Type 0
 Held words pool = Below (2 ^ 64) words × Below 256 pool
 
