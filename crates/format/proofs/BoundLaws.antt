@@ -1,6 +1,6 @@
 -- The two bounds of a key's first k fields: a key lies between them exactly if its own first k fields have the same values.
 use mathlib.Core.Path.{_≡_, refl, sym, ap, _∙_, subst}
-use mathlib.Core.Logic.{_≢_, _↔_}
+use mathlib.Core.Logic.{_↔_}
 use mathlib.Core.List.{List, [], _∷_, _++_, append-assoc, append-nil}
 use Prim.Native.Nat.{ℕ, zero, suc, Ordering, Ordering·lt, Ordering·eq, Ordering·gt}
 use native.Mathlib.Omega.{arith}
@@ -10,7 +10,7 @@ use Rattle.format.specs.Sheet.{valCount}
 use Rattle.format.specs.Encode.{valsBytes, keyBytes}
 use Rattle.format.specs.Order.{then, cmpBytes, cmpVals}
 use Rattle.format.specs.Bounds.{aboveField, firsts, rests, firstBytes, Between}
-use Rattle.format.proofs.CompareLaws.{more, flip, cmpBytes-flip}
+use Rattle.format.proofs.CompareLaws.{more, flip, cmpBytes-flip, nil-first}
 use Rattle.format.proofs.ScalarLaws.{low-nil, low-end}
 use Rattle.format.proofs.Sound.{Sound, AllSound}
 use Rattle.format.proofs.OrderLaws.{marked, low-vals}
@@ -30,16 +30,11 @@ split-sound zero vs w = (tt, w)
 split-sound (suc k) Vals.NoVal w = (tt, tt)
 split-sound (suc k) (Vals.AddVal v vs) w = let h = split-sound k vs (w .1) in ((w .0, h .0), h .1)
 
--- the fields left are below FF, and never below nothing
+-- the fields left are below FF
 rest-low : (vs : Vals) → AllSound vs → cmpBytes (0xFF ∷ []) (valsBytes 0 vs) ≡ Ordering·gt
 unfolding cmpBytes valsBytes
 rest-low Vals.NoVal w = refl
 rest-low (Vals.AddVal v vs) w = let m = marked 0 v (w .0) in rw (m .bytes, more {m = 0xFF} {n = m .mark} (m .small))
-
-nil-first : (x : List ℕ) → cmpBytes [] x ≢ Ordering·gt
-unfolding cmpBytes
-nil-first [] e = let z : _≡_ {A = ℕ} 0 1 = cc in omega arith
-nil-first (b ∷ x) e = let z : _≡_ {A = ℕ} 0 1 = cc in omega arith
 
 -- a key lies between the bounds of k values exactly if these are its first k
 pub bounds : (k : ℕ) (ps vs : Vals) → valCount ps ≡ valCount (firsts k vs) → AllSound ps → AllSound vs

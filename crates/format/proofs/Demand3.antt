@@ -39,7 +39,7 @@ use Rattle.format.proofs.AfreshLaws.{afresh}
 abbrev wroteOr : Bool → List ℕ → List ℕ → Called ℕ
 wroteOr b out x = if b (record { answer = ok (length x); buffer = over x out }) (record { answer = noRoom (length x); buffer = out })
 
-wrote : (out : List ℕ) (a : Answer (List ℕ)) (n : ℕ) → written out a .answer ≡ ok n
+pub wrote : (out : List ℕ) (a : Answer (List ℕ)) (n : ℕ) → written out a .answer ≡ ok n
     → (x : List ℕ) × (a ≡ ok x) × (length x ≤ length out) × (n ≡ length x) × (written out a .buffer ≡ over x out)
 wrote out (refused m d) n e = absurd (no-answer e)
 wrote out (ok x) n e = go (leb (length x) (length out)) (leb-test (length x) (length out)) e

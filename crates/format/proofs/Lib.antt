@@ -19,7 +19,7 @@
 -- EqualLaws    values compare equal exactly if they are the same
 -- EncodeLaws   encodings and keys of one type compare as their values, and are equal exactly if these are
 -- BoundLaws    a key lies between the bounds of k fields exactly if its first k fields are these
--- StrincLaws   strinc is above all that begins with the prefix, and refuses exactly where nothing is
+-- StrincLaws   strinc is above all that begins with the prefix, the least such, and refuses exactly where nothing is
 --
 -- There and back:
 -- ByteLaws     a value's bytes are bytes
@@ -61,6 +61,8 @@
 -- What was requested later:
 -- ReferenceSplit   a reference is a predicate of 24 bits and a sequence of 40
 -- SearchLaws   how many alternatives the search for a discriminant looks at
+-- Ranges       strinc writes the least end above a prefix
+-- RangeExamples   such ends worked by hand, and wrong ones that are not the least
 pub mod Specimens
 pub mod KeylistExample
 pub mod Bytes
@@ -109,3 +111,5 @@ pub mod Demand3
 pub mod BookExample
 pub mod ReferenceSplit
 pub mod SearchLaws
+pub mod Ranges
+pub mod RangeExamples

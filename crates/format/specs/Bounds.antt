@@ -34,9 +34,23 @@ raisedOr (b ∷ bs) = ok (raised (b ∷ bs))
 unfoldable pub strinc : List ℕ → Answer (List ℕ)
 strinc p = raisedOr (trimmed p)
 
--- every number is below n, as the code's types hold them: u64 words, u8 bytes
+-- every number is below n: words of 64 bits, bytes
 abbrev pub Below : ℕ → List ℕ → Type 0
 Below n l = (i : ℕ) → getD l i 0 < n
+
+-- as the code's u8
+abbrev pub ByteString : List ℕ → Type 0
+ByteString l = Below 256 l
+
+-- q is above every byte string that begins with p
+abbrev pub Above : (p q : List ℕ) → Type 0
+Above p q = (s : List ℕ) → ByteString s → cmpBytes (p ++ s) q ≡ Ordering·lt
+
+-- of all byte strings above every byte string that begins with p, q is the least; strinc's end is (Ranges.StrincTight, theorem strinc-tight)
+pub record Least (p q : List ℕ) : Type 0 where
+  pub bytes : ByteString q
+  pub above : Above p q
+  pub least : (r : List ℕ) → ByteString r → Above p r → cmpBytes q r ≢ Ordering·gt
 
 -- above_field adds FF
 abbrev pub aboveField : List ℕ → List ℕ

@@ -24,3 +24,4 @@ pub mod Keylist
 -- what was requested later, in the order of landing
 pub mod ReferenceSplit
 pub mod Search
+pub mod Ranges
