@@ -45,7 +45,7 @@ enum {
     TUPLE_BAD_VALUE = 16,            /* a value sheet that is not admitted */
     TUPLE_NO_ROOM = 17,              /* a lent buffer is short; detail: the units needed */
     TUPLE_NO_FIELD = 18,             /* no such field, a count of fields over the type's, or not a record type */
-    TUPLE_NO_BOUND = 19,             /* strinc: no string is above all that begin with the prefix */
+    TUPLE_NO_BOUND = 19,             /* strinc: no byte string is above all that begin with the prefix */
     TUPLE_BAD_LINE = 20              /* the program keylist alone: a line that is no key */
 };
 
@@ -121,7 +121,8 @@ tuple_sheet tuple_check_key(const uint32_t *type, size_t type_len, const uint8_t
 tuple_length tuple_skip(const uint8_t *bytes, size_t bytes_len, size_t start, bool require_escape_null);
 /* how two values compare: where they are of one type, as their keys do; refusal 16 */
 tuple_order tuple_compare(const uint64_t *words_a, size_t words_a_len, const uint8_t *pool_a, size_t pool_a_len, const uint64_t *words_b, size_t words_b_len, const uint8_t *pool_b, size_t pool_b_len);
-/* an end above every string that begins with the prefix; refusals 19, 17 */
+/* of all byte strings above every byte string that begins with the prefix, the least (theorem strinc-tight, crates/format/proofs/Ranges.antt);
+ * refusals 19 (there is none), 17 */
 tuple_length tuple_strinc(const uint8_t *prefix, size_t prefix_len, uint8_t *out, size_t out_len);
 /* the key through a field with FF behind: above every key with the same fields up to there, and not above any key whose fields up to there are greater;
  * refusal 17 */

@@ -205,11 +205,15 @@ pub fn compare(a: &Value, b: &Value) -> Result<Ordering, Refusal> {
     ffi::compare(&a.sheet(), &b.sheet()).accepted().map(|answer| answer.order.cmp(&0))
 }
 
-/// An end above every string that begins with the prefix. It is no end for the keys of a field: see [`above_field`]. Refusal: 19.
+/// Of all byte strings above every byte string that begins with the prefix, the least (theorem `strinc-tight` of crate `format`): no other end of a search
+/// for the prefix reads fewer rows. It is no end for the keys of a field: see [`above_field`]. Refusal: 19, where there is none.
 ///
 /// ```
-/// assert_eq!(tuple::strinc(&[0x0A, 0xFF]), Ok(vec![0x0B]));
-/// assert_eq!(tuple::strinc(&[0xFF]), Err(tuple::Refusal::NoBound));
+/// use tuple::{Refusal, strinc};
+///
+/// assert_eq!(strinc(&[0x0A, 0xFF]), Ok(vec![0x0B])); // and not 0B 00, which is above them too
+/// assert_eq!(strinc(&[0x0A, 0x0B]), Ok(vec![0x0A, 0x0C]));
+/// assert_eq!(strinc(&[0xFF]), Err(Refusal::NoBound));
 /// ```
 pub fn strinc(prefix: &[u8]) -> Result<Vec<u8>, Refusal> {
     room::filled(prefix.len(), |out| ffi::strinc(prefix, out))

@@ -3,3 +3,4 @@ pub mod Laws
 pub mod Refusals
 pub mod StepLaws
 pub mod ListLaws
+pub mod RangeLaws

@@ -2,3 +2,4 @@
 pub mod Numbers
 pub mod StepNumbers
 pub mod Lists
+pub mod Ranges

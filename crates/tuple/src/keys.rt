@@ -26,6 +26,7 @@ pub extern "C" fn tuple_compare(
     answers::of_compared(order::compare(words_a, pool_a, words_b, pool_b))
 }
 
+// What an accepted call leaves is the least end above the prefix: theorem tight-call, which has it from this contract and from theorem strinc-tight of format.
 #[no_mangle]
 pub extern "C" fn tuple_strinc(prefix: &[u8], out: &mut [u8]) -> Length
     ensures { λ r. ⌜ Writes (strincCall (now (prefix .entry)) (now (out .entry))) r (now (out .exit)) ⌝ }
