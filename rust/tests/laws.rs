@@ -183,6 +183,31 @@ fn single_fields_are_those_of_the_encoder() {
     }
 }
 
+/// Every string of up to `most` of these bytes.
+fn strings(bytes: &[u8], most: usize) -> Vec<Vec<u8>> {
+    let mut all = vec![vec![]];
+    let mut from = 0;
+    for _ in 0..most {
+        let last = from..all.len();
+        from = all.len();
+        for at in last {
+            let longer = bytes.iter().map(|byte| [all[at].as_slice(), &[*byte]].concat());
+            all.extend(longer.collect::<Vec<_>>());
+        }
+    }
+    all
+}
+
+#[test]
+fn strinc_is_the_least_end_above_a_prefix() {
+    let ends = strings(&[0x00, 0x01, 0x02, 0x41, 0x42, 0xFE, 0xFF], 4);
+    for prefix in strings(&[0x00, 0x01, 0x41, 0xFE, 0xFF], 3) {
+        // as many FF behind the prefix as the end has bytes, and one more: no string with the prefix comes closer to it
+        let above = |end: &&Vec<u8>| [prefix.as_slice(), &vec![0xFF; end.len() + 1]].concat() < **end;
+        assert_eq!(strinc(&prefix).as_ref().ok(), ends.iter().filter(above).min(), "{prefix:?}");
+    }
+}
+
 #[test]
 fn strinc_is_above_every_string_with_the_prefix() {
     let mut random = Random::new(8);

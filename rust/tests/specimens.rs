@@ -131,6 +131,9 @@ fn replacements_that_grow_and_shrink_a_key() {
 #[test]
 fn where_strinc_drops_bytes() {
     assert_eq!(strinc(&hex("0A FF FF")), Ok(hex("0B")));
+    assert_eq!(strinc(&hex("00 FF FF")), Ok(hex("01")));
+    assert_eq!(strinc(&hex("41")), Ok(hex("42")));
+    assert_eq!(strinc(&hex("0A 0B")), Ok(hex("0A 0C")));
     assert_eq!(strinc(&hex("53 0A 00")), Ok(hex("53 0A 01")));
     assert_eq!(strinc(&[]), Err(Refusal::NoBound));
 }

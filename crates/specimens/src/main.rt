@@ -1,4 +1,5 @@
 // Runs the specimens of document 01 that need single fields and sheets alone, and prints what the code answers: bytes in hexadecimal, or refusal and detail.
+mod least_ends; // least_ends.rt: the least end above a prefix
 mod searches; // searches.rt: the search for a discriminant, and how many alternatives it looks at
 
 use format::Length;
@@ -129,4 +130,5 @@ fn main() {
     sheets();
     others();
     searches::searches();
+    least_ends::least_ends();
 }

@@ -51,6 +51,8 @@ faults! {
     CompareShorter "compare-shorter",
     StrincEnd "strinc-end",
     StrincEmpty "strinc-empty",
+    StrincLonger "strinc-longer",
+    StrincFirst "strinc-first",
     BoundsCount "bounds-count",
     BoundsHalf "bounds-half",
     ReplaceOrder "replace-order",

@@ -278,7 +278,17 @@ pub unsafe extern "C" fn tuple_strinc(prefix: *const u8, prefix_len: usize, out:
     if has(Fault::StrincEmpty) && prefix.is_empty() {
         return write(&[0xFF], out).into();
     }
-    tuple::strinc(prefix).ok_or((NO_BOUND, 0)).and_then(|above| write(&above, out)).into()
+    // Both ends are above every string with the prefix, and not the least.
+    let end = tuple::strinc(prefix).map(|mut end| {
+        if has(Fault::StrincLonger) && prefix.ends_with(&[0xFF]) {
+            end.push(0);
+        }
+        if has(Fault::StrincFirst) && end.len() > 1 && prefix[0] < 0xFF {
+            end = vec![prefix[0] + 1];
+        }
+        end
+    });
+    end.ok_or((NO_BOUND, 0)).and_then(|above| write(&above, out)).into()
 }
 
 #[unsafe(no_mangle)]
