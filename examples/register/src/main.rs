@@ -1,5 +1,6 @@
 //! The register in a real ordered store: tanks, batches, recipe lines and doses as keys in LevelDB. It shows how a search that ends at strinc loses a batch
-//! and one by the bounds call does not, replaces fields in stored keys, and checks that the store's order is the order of the values.
+//! and one by the bounds call does not, replaces fields in stored keys, checks that the store's order is the order of the values, and counts the rows that a search
+//! for a prefix reads by its upper end.
 
 mod leveldb;
 mod tables;
@@ -10,7 +11,7 @@ use std::error::Error;
 use std::path::Path;
 use std::process::ExitCode;
 use tables::{Table, Tables, batch, dose, field, fields, hex, line, shown};
-use tuple::{FactId, PredicateId, Type, Value, compare};
+use tuple::{FactId, PredicateId, Type, Value, compare, strinc};
 
 type Answer<T> = Result<T, Box<dyn Error>>;
 
@@ -383,6 +384,33 @@ fn every_tank(store: &Store, tables: &Tables, checks: &mut Checks) -> Answer<()>
     Ok(())
 }
 
+/// Keys by their beginnings: the rows that begin so, and how many a search reads up to each of three ends above all of them.
+fn planned(store: &Store, tables: &Tables, checks: &mut Checks) -> Answer<()> {
+    let read = |range: std::ops::Range<Vec<u8>>| store.scan(&range);
+    let all = read(tables.batches.whole())?;
+    let mut rows = Vec::new();
+    for prefix in [&b"\x53\x0A"[..], b"\x53\x0A\xFF", b"\x53\x0C\x00\xFF\x00\x49\x11"] {
+        let start = tables.batches.behind(prefix.to_vec());
+        let due = all.iter().filter(|(key, _)| key.starts_with(&start)).count();
+        let least = strinc(&start)?;
+        let longer = [&least[..], &[0]].concat();
+        let mut row = vec![hex(prefix), due.to_string(), hex(&least[4..])];
+        let mut reads = Vec::new();
+        for end in [least, longer, tables.batches.whole().end] {
+            reads.push(read(start.clone()..end)?.len());
+        }
+        row.extend(reads.iter().map(usize::to_string));
+        row.push(checks.yes(reads[0] == due && reads.iter().all(|n| *n >= due)).to_owned());
+        rows.push(row);
+    }
+    table(
+        "7. Upper ends above every batch whose key begins so, and the rows read up to each: no end reads fewer than strinc's",
+        &["beginning", "begin so", "strinc", "reads", "with 00 behind", "the table's end", "none fewer"],
+        &rows,
+    );
+    Ok(())
+}
+
 fn run(folder: &Path) -> Answer<Checks> {
     let (tables, mut random, mut checks) = (Tables::new(), Random(7), Checks::default());
     let store = Store::create(folder)?;
@@ -395,6 +423,7 @@ fn run(folder: &Path) -> Answer<Checks> {
     replacements(&store, &tables, &batches, &mut checks)?;
     order(&store, &tables, &mut random, &mut checks)?;
     every_tank(&store, &tables, &mut checks)?;
+    planned(&store, &tables, &mut checks)?;
     Ok(checks)
 }
 

@@ -39,7 +39,8 @@ impl Tables {
 }
 
 impl Table {
-    fn behind(&self, bytes: Vec<u8>) -> Vec<u8> {
+    /// Bytes behind the predicate's number.
+    pub fn behind(&self, bytes: Vec<u8>) -> Vec<u8> {
         [&self.predicate.0.to_be_bytes()[..], &bytes].concat()
     }
 
