@@ -2,7 +2,7 @@
 # That include/tuple.h declares what the library exports: writes the answers and the calls of crates/tuple in C's words, and compiles that beside the header.
 # A field, a size, a parameter, an answer or a split of references that differs does not compile; a call or a refusal's number that only one of the two has is shown, and so is
 # a file of the code that names the split beside the constant and its one user, a second line that compares a discriminant with a tag, or a theorem that the
-# header, a comment of the code or the Rust crate names and that no crate has.
+# header, a comment of the code, the Rust crate or README names and that no crate has.
 set -eu
 cd "$(dirname "$0")/../.."
 made=$(mktemp -d)
@@ -61,7 +61,7 @@ grep -rlE 'SEQUENCES|0x100_?0000_?0000|1_?099_?511_?627_?776|(<<|>>) ?40' crates
 printf 'crates/%s\n' format/src/lib.rt scalar/src/refs.rt | diff - "$made/split"
 grep -rnE '[!=]= tag\b|\btag [!=]=' crates/*/src --include='*.rt' | sed 's/:.*//' >"$made/searches"
 echo crates/sheet/src/alternatives.rt | diff - "$made/searches"
-grep -rhoE 'theorem `?[a-z0-9-]+' include crates/*/src rust/src | tr -d '`' | sort -u >"$made/named"
+grep -rhoE 'theorem `?[a-z0-9-]+' README.md include crates/*/src rust/src | tr -d '`' | sort -u >"$made/named"
 sed 's/^theorem //' "$made/named" | while read -r theorem; do
     grep -rqE "^pub $theorem :" crates/*/proofs --include='*.antt' || { echo "no crate has theorem $theorem"; exit 1; }
 done

@@ -34,11 +34,11 @@ raisedOr (b ∷ bs) = ok (raised (b ∷ bs))
 unfoldable pub strinc : List ℕ → Answer (List ℕ)
 strinc p = raisedOr (trimmed p)
 
--- every number is below n: words of 64 bits, bytes
+-- every number of a list is below n
 abbrev pub Below : ℕ → List ℕ → Type 0
 Below n l = (i : ℕ) → getD l i 0 < n
 
--- as the code's u8
+-- numbers that are bytes, as the code's u8
 abbrev pub ByteString : List ℕ → Type 0
 ByteString l = Below 256 l
 
