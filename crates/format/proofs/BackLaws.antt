@@ -28,7 +28,7 @@ pub then-got : {A B : Type 0} (m : Read A) (f : A → List ℕ → Read B) {b : 
 then-got (Read.got a s) f e = (a, s, refl, e)
 then-got (Read.bad n d) f e = absurd (bad-got e)
 
-cons-got : (b : ℕ) (m : Read (List ℕ)) {s r : List ℕ} → consRead b m ≡ Read.got s r → (t : List ℕ) × (m ≡ Read.got t r) × (s ≡ b ∷ t)
+pub cons-got : (b : ℕ) (m : Read (List ℕ)) {s r : List ℕ} → consRead b m ≡ Read.got s r → (t : List ℕ) × (m ≡ Read.got t r) × (s ≡ b ∷ t)
 cons-got b (Read.got t r) e = (t, cc, cc)
 cons-got b (Read.bad n d) e = absurd (bad-got e)
 

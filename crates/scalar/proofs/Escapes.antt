@@ -10,6 +10,7 @@ use borrow.Author.Tests.{eq-eqb, ne-eqb, eqb-true, eqb-false}
 use Rattle.format.specs.Scalar.{escaped}
 use Rattle.format.specs.Read.{Read, got, bad, consRead, getRun, afterZero}
 use Rattle.format.specs.Fields.{hasZero}
+use Rattle.format.proofs.BackLaws.{cons-got}
 use Rattle.blocks.specs.Zeros.{zeros}
 use Rattle.blocks.proofs.Counts.{zeros-zero, zeros-byte, zeros-nil, zeros-le}
 use Rattle.scalar.specs.Runs.{unescape}
@@ -105,13 +106,6 @@ pub record RunAt (s : List ℕ) (e : ℕ) (p r : List ℕ) : Type 0 where
   pub payload : p ≡ unescape (take e s)
   pub escapes : e ≡ length p + zeros p
   pub zeroed : zeros (take e s) ≡ zeros p
-
-cons-got : (b : ℕ) (x : Read (List ℕ)) {p r : List ℕ} → consRead b x ≡ got p r → (q : List ℕ) × (x ≡ got q r) × (p ≡ b ∷ q)
-cons-got b (got q s) {p} {r} h =
-    let e : s ≡ r = cc in
-    let f : b ∷ q ≡ p = cc in
-    (q, rw e, sym f)
-cons-got b (bad n d) {p} {r} h = no-got n d p r h
 
 at-byte : (b : ℕ) {t : List ℕ} {e : ℕ} {p r : List ℕ} → (b ≡ 0 → ⊥) → RunAt t e p r → RunAt (b ∷ t) (e + 1) (b ∷ p) r
 at-byte b {t} {e} {p} {r} h a =
