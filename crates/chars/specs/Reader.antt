@@ -5,12 +5,14 @@ use mathlib.Core.List.{List}
 use Prim.Native.Nat.{ℕ}
 use lib.Dec.{eqb}
 use lib.ListN.{drop}
+use denote.Ref.{now}
 use Rattle.format.specs.Answer.{if, Answer, ok, refused}
 use Rattle.format.specs.Chars as chars
 use Rattle.chars.specs.declared.Step.{Step}
 use Rattle.chars.specs.declared.Step.the-variants.{Char, End, Refused}
 use Rattle.chars.specs.declared.Stepped.{Stepped}
 use Rattle.chars.specs.declared.Opening.{Opening}
+use Rattle.chars.specs.declared.StrChars.{StrChars}
 
 abbrev pub stepOf : Step → chars.Step
 stepOf (Char code) = chars.Step.char code
@@ -42,3 +44,10 @@ pub record Begins (bytes : List ℕ) (refusal detail : ℕ) (text : List ℕ) (a
   pub opens : Opens bytes refusal detail done
   pub held : text ≡ drop 1 bytes
   pub at-start : at ≡ 0
+
+-- one step of a lent reader: what it gives, and the reader afterwards, which holds the same bytes
+pub record Moves (r : StrChars) (t : Step) (r′ : StrChars) : Type 0 where
+  pub gives : stepOf t ≡ chars.stepAt (now (r .bytes)) (r .at) (r .done) .step
+  pub held : r′ .bytes ≡ r .bytes
+  pub place : r′ .at ≡ chars.stepAt (now (r .bytes)) (r .at) (r .done) .at
+  pub flag : r′ .done ≡ chars.stepAt (now (r .bytes)) (r .at) (r .done) .done

@@ -4,7 +4,7 @@ ghost use mathlib.Core.Bool.{false};
 ghost use Prim.Native.Nat.{_<_, _+_};
 ghost use lib.ListN.{length, getD, drop};
 ghost use Rattle.format.specs.Chars as chars;
-ghost use Rattle.chars.specs.Reader.{stepOf, steppedOf, refusedAs, Opens, Begins};
+ghost use Rattle.chars.specs.Reader.{stepOf, steppedOf, refusedAs, Opens, Begins, Moves};
 
 // A reader of one stored string. Any place and any flag will do.
 pub struct StrChars<'a> {
@@ -163,10 +163,7 @@ pub fn contents<'a>(bytes: &'a [u8]) -> &'a [u8]
 
 // One step of a reader that is lent: what it gives, and the reader's place and flag moved.
 pub fn next<'s, 'a>(r: &'s mut StrChars<'a>) -> Step
-    ensures { λ t. ⌜ (stepOf t ≡ chars.stepAt (now (now (r .entry) .bytes)) (now (r .entry) .at) (now (r .entry) .done) .step)
-        × (now (r .exit) .bytes ≡ now (r .entry) .bytes)
-        × (now (r .exit) .at ≡ chars.stepAt (now (now (r .entry) .bytes)) (now (r .entry) .at) (now (r .entry) .done) .at)
-        × (now (r .exit) .done ≡ chars.stepAt (now (now (r .entry) .bytes)) (now (r .entry) .at) (now (r .entry) .done) .done) ⌝ }
+    ensures { λ t. ⌜ Moves (now (r .entry)) t (now (r .exit)) ⌝ }
 {
     let t = step_at(r.bytes, r.at, r.done);
     r.at = t.at;

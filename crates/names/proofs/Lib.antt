@@ -1,2 +1,3 @@
 -- Laws of the steps noted.
 pub mod StepLaws
+pub mod PanelLaws

@@ -1,4 +1,5 @@
 -- The steps of a reader, as they are noted one after another: what is noted and what is left are the steps of the new reader.
+use denote.Ref.{now}
 use mathlib.Core.Path.{_≡_, refl, sym, ap, _∙_}
 use mathlib.Core.Bool.{Bool}
 use mathlib.Core.List.{List, [], _∷_, _++_, map, map-append, append-assoc, append-nil}
@@ -7,10 +8,12 @@ use native.Mathlib.Omega.{arith}
 use native.Mathlib.Numerals.{add-one}
 use lib.ListN.{length, take, drop, set, length-set}
 use lib.Seq.{take-all, take-suc-set}
-use Rattle.format.specs.Chars.{Step, stepAt}
-use Rattle.chars.specs.Reader.{stepOf, closed, Opens, Begins}
+use Rattle.format.specs.Chars.{Step, Stepped, stepAt}
+use Rattle.chars.specs.Reader.{stepOf, closed, Opens, Begins, Moves}
 use Rattle.chars.specs.declared.Step.{Step as Told}
-use Rattle.names.specs.Steps.{stepsFrom, stepIn, start, with, Gives}
+use Rattle.chars.specs.declared.StrChars.{StrChars}
+use Rattle.chars.specs.Names.{stepsFrom}
+use Rattle.names.specs.Steps.{stepIn, start, with, Gives}
 use Rattle.names.specs.declared.Seen.{Seen}
 use Rattle.names.specs.declared.Given.{Given}
 
@@ -53,15 +56,20 @@ module _ (name text : List ℕ) (at : ℕ) (done : Bool) where
       let all : take i (g .seen) ≡ g .seen = take-all i (g .seen) (omega (arith, e .room, e .place)) in
       record { opens = e .opens; steps = ap (map stepIn) (sym all) ∙ sym (no-more text at done (map stepIn (take i (g .seen)))) ∙ e .steps }
 
-  pub goes-on : (g : Given) (i n : ℕ) (t : Told) (text′ : List ℕ) (at′ : ℕ) (done′ : Bool) → Going name text at done g i (suc n) → stepOf t ≡ stepAt text at done .step
-      → text′ ≡ text → at′ ≡ stepAt text at done .at → done′ ≡ stepAt text at done .done → Going name text′ at′ done′ (with g i t) (i + 1) n
-  goes-on g i n t text′ at′ done′ e f p q r = record {
+-- one step more
+module _ (name : List ℕ) (h : StrChars) where
+  abbrev found : Stepped
+  found = stepAt (now (h .bytes)) (h .at) (h .done)
+
+  pub goes-on : (g : Given) (i n : ℕ) (t : Told) (h′ : StrChars) → Going name (now (h .bytes)) (h .at) (h .done) g i (suc n) → Moves h t h′
+      → Going name (now (h′ .bytes)) (h′ .at) (h′ .done) (with g i t) (i + 1) n
+  goes-on g i n t h′ e m = record {
     opens = e .opens;
-    held = p ∙ e .held;
+    held = ap now (m .held) ∙ e .held;
     room = length-set (g .seen) i (record { step = t }) ∙ e .room;
     place = omega (arith, e .place);
-    steps = rw (p, q, r) (noted (g .seen) i (record { step = t }) (stepsFrom text (stepAt text at done .at) (stepAt text at done .done) n) (omega (arith, e .room, e .place))
-        ∙ ap (λ (x : Step). map stepIn (take i (g .seen)) ++ (x ∷ stepsFrom text (stepAt text at done .at) (stepAt text at done .done) n)) f
-        ∙ ap (λ (l : List Step). map stepIn (take i (g .seen)) ++ l) (sym (one-more text at done n))
+    steps = rw (m .held, m .place, m .flag) (noted (g .seen) i (record { step = t }) (stepsFrom (now (h .bytes)) (found .at) (found .done) n) (omega (arith, e .room, e .place))
+        ∙ ap (λ (x : Step). map stepIn (take i (g .seen)) ++ (x ∷ stepsFrom (now (h .bytes)) (found .at) (found .done) n)) (m .gives)
+        ∙ ap (λ (l : List Step). map stepIn (take i (g .seen)) ++ l) (sym (one-more (now (h .bytes)) (h .at) (h .done) n))
         ∙ e .steps);
   }

@@ -1,20 +1,19 @@
--- The steps of a new reader, one after another.
+-- The steps of a new reader, one after another, and beside them what get_str answers.
 use mathlib.Core.Path.{_≡_}
-use mathlib.Core.Bool.{Bool}
-use mathlib.Core.List.{List, [], _∷_, map}
-use Prim.Native.Nat.{ℕ, zero, suc}
+use mathlib.Core.List.{List, _∷_, map}
+use Prim.Native.Nat.{ℕ}
 use lib.ListN.{drop, set, replicate}
-use Rattle.format.specs.Chars.{Step, stepAt}
+use Rattle.format.specs.Fields.{getStrCall, partOf}
+use Rattle.format.specs.Chars.{Step}
+use Rattle.scalar.specs.Answers as scalar
 use Rattle.chars.specs.Reader.{stepOf, closed, Opens}
+use Rattle.chars.specs.Names.{stepsFrom}
+use Rattle.chars.specs.Scrolling.{Scrolled}
 use Rattle.chars.specs.declared.Step.{Step as Told}
 use Rattle.chars.specs.declared.Step.the-variants.{End}
 use Rattle.names.specs.declared.Seen.{Seen}
 use Rattle.names.specs.declared.Given.{Given}
-
--- the first n steps of a reader, from a place and a flag on
-unfoldable pub stepsFrom : (s : List ℕ) (at : ℕ) (done : Bool) (n : ℕ) → List Step
-stepsFrom s at done zero = []
-stepsFrom s at done (suc n) = stepAt s at done .step ∷ stepsFrom s (stepAt s at done .at) (stepAt s at done .done) n
+use Rattle.names.specs.declared.Panel.{Panel}
 
 abbrev pub stepIn : Seen → Step
 stepIn x = stepOf (x .step)
@@ -31,3 +30,12 @@ with g i t = record { refusal = g .refusal; detail = g .detail; seen = set (g .s
 pub record Gives (name : List ℕ) (g : Given) : Type 0 where
   pub opens : Opens name (g .refusal) (g .detail) (closed (g .refusal))
   pub steps : map stepIn (g .seen) ≡ stepsFrom (drop 1 name) 0 (closed (g .refusal)) 12
+
+abbrev pub tellsOf : Given → List Told
+tellsOf g = map (λ (x : Seen). x .step) (g .seen)
+
+-- a name's opening and steps, and get_str's answer; of a name that begins with the mark 21, the steps give what get_str decodes (U14)
+pub record Shows (name scratch : List ℕ) (b : Panel) (left : List ℕ) : Type 0 where
+  pub given : Gives name (b .given)
+  pub got : scalar.Gives (getStrCall name scratch) (b .got) left
+  pub scrolled : (s : List ℕ) → name ≡ 0x21 ∷ s → Scrolled name (tellsOf (b .given)) (b .got) (partOf name left (scalar.gotPart (b .got)))

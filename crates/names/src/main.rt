@@ -1,11 +1,12 @@
-// Opens a reader on stored names and prints what its steps give, a name on a line: its bytes, the refusal of an opening, the characters' code points,
-// the end or a refusal behind them, and one step more.
+// Scrolls stored names as a panel does, a step a character, and prints a name on a line: its bytes, the refusal of an opening, the characters' code points, the end or
+// a refusal behind them, and one step more; then what get_str answers to the same bytes.
 use chars::Step;
+use scalar::GotPart;
 ghost use mathlib.Core.Path.{_≡_};
 ghost use Prim.Native.Nat.{_<_};
-ghost use Rattle.names.specs.Steps.{start, with, Gives};
+ghost use Rattle.names.specs.Steps.{start, with, Gives, Shows};
 
-// How many steps are taken of each name.
+// How many steps are taken of each name: the cells of the panel.
 const STEPS: usize = 12;
 
 // A step, as an element of an array.
@@ -57,6 +58,21 @@ fn read(name: &[u8]) -> Given
     given
 }
 
+// What the panel shows of a name, beside get_str's answer.
+struct Panel {
+    given: Given,
+    got: GotPart,
+}
+
+// The cells hold the beginning of the name that get_str decodes, where it accepts.
+fn beside(name: &[u8], scratch: &mut [u8]) -> Panel
+    ensures { λ r. ⌜ Shows (now (name .entry)) (now (scratch .entry)) r (now (scratch .exit)) ⌝ }
+{
+    let given = read(name);
+    let got = scalar::get_str(name, scratch);
+    Panel { given, got }
+}
+
 fn print_refused(no: u32, detail: u64) {
     show::text(b" refused ");
     show::number(no as u64);
@@ -96,29 +112,71 @@ fn print_steps(given: Given) {
     }
 }
 
-fn name_line(name: &[u8]) {
-    let given = read(name);
-    show::bytes(name, name.len());
-    show::text(b":");
+fn print_given(given: Given) {
     if given.refusal != 0 {
         print_refused(given.refusal, given.detail);
     }
     print_steps(given);
+}
+
+// A name that get_str decodes, or its refusal.
+fn print_got<'a>(name: &'a [u8], scratch: &'a [u8], got: GotPart) {
+    show::text(b"; get_str");
+    if let GotPart::Refused(no, detail) = got {
+        print_refused(no, detail);
+        return;
+    }
+    let payload = scalar::payload(name, scratch, got);
+    show::text(b" [");
+    show::bytes(payload, payload.len());
+    show::text(b"]");
+}
+
+fn scratch_line(name: &[u8], scratch: &mut [u8]) {
+    let b = beside(name, scratch);
+    let given = b.given;
+    let got = b.got;
+    show::bytes(name, name.len());
+    show::text(b":");
+    print_given(given);
+    print_got(name, scratch, got);
     show::text(b"\n");
 }
 
+fn name_line(name: &[u8]) {
+    let mut scratch = [0u8; 32];
+    scratch_line(name, &mut scratch);
+}
+
+// The same with too little scratch.
+fn short_line(name: &[u8]) {
+    let mut scratch = [0u8; 3];
+    scratch_line(name, &mut scratch);
+}
+
 fn main() {
-    // characters of one to four bytes and an escaped zero; the empty name; bytes behind a name
+    // plain: one character, a name longer than the panel, the empty name
     name_line(b"\x21\x41\x00");
-    name_line(b"\x21\xc3\xa9\xe2\x82\xac\xf0\x9f\x98\x80\x00\xff\x7a\x00");
+    name_line(b"\x21ultramarine blue\x00");
     name_line(b"\x21\x00");
+    // characters of two, three and four bytes, and an escaped zero
+    name_line(b"\x21\xc3\xa9\x00\xff\x41\x00");
+    name_line(b"\x21\xc3\xa9\xe2\x82\xac\xf0\x9f\x98\x80\x00\xff\x7a\x00");
+    // too little scratch for a name with an escape: the panel shows it all the same
+    short_line(b"\x21\xc3\xa9\x00\xff\x41\x00");
+    // bytes behind the run
     name_line(b"\x21\x41\x00\x80");
+    // no text: a byte that leads nothing, an escape within a character
+    name_line(b"\x21\x41\x80\x00");
+    name_line(b"\x21\x41\x80\x00\x00");
+    name_line(b"\x21\xc2\x00\xff\x00");
+    // too few bytes for the lead, where get_str says that it is no text; and the other way round
+    name_line(b"\x21\xe2\x00");
+    name_line(b"\x21\x80");
+    // no end
+    name_line(b"\x21");
+    name_line(b"\x21\x41");
     // refused openings: another mark, no bytes
     name_line(b"\x22\x00");
     name_line(b"");
-    // refused steps: too few bytes for the lead, where get_str says that it is no text; no text; no end
-    name_line(b"\x21\xe2\x00");
-    name_line(b"\x21\x41\x80\x00");
-    name_line(b"\x21\xc2\x00\xff\x00");
-    name_line(b"\x21\x41");
 }

@@ -170,7 +170,7 @@ module _ {M : Type 1} (𝓤 : URA M) (H : Heap 𝓤) (A : Atoms 𝓤) (W : Given
   exits t e =
       qed W (‵ (fobs γ (B κ′ .coded .code (after t))) ∷ ‵ (fbor κ (Body (mem (B κ′)) b o γ)) ∷ ‵ (flft κ q) ∷ ‵ (S.the-row .own t (step-val t ∷ [])) ∷ (‵ (flft κ′ q′) ⊛ ‵ ftrue) ∷ []) ∵
       suffices ! _ (ends-at 𝓤 H A next.ended stayed (next.clauses 𝓤 H A at-mem run) W (((κ, (κ′, tt)), (q, (q′, tt)), bounds, x, at), tt) (enum-val t) (t .step) (after t, tt) (tt, tt)) $
-      says ! (ap (λ (z : Found). z .step) e, refl, ap (λ (z : Found). z .at) e, ap (λ (z : Found). z .done) e) $
+      says ! (record { gives = ap (λ (z : Found). z .step) e; held = refl; place = ap (λ (z : Found). z .at) e; flag = ap (λ (z : Found). z .done) e }) $
       move ! (2 ∷ 4 ∷ []) $ join ! $ frame ! $
       -- [obs; the borrow; what the step owns]
       feqI ! (List Val) (vptr b o ∷ []) (vptr b o ∷ []) refl $ fjoin3 ! $ nothing ! $ move ! (1 ∷ 0 ∷ []) $ fjoin ! $ frame ! $

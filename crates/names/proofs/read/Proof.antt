@@ -56,8 +56,7 @@ use denote.Triple.Table.{entered, cited}
 use denote.Triple.Walked.{says, Stays, stay-none-slice, walkOf, goes-none-slice, Walks, ends-at, walked, walk-meets}
 use denote.Exit.{yes}
 use denote.Triple.Clauses.{ensured, Lasts, lasts}
-use Rattle.format.specs.Chars.{stepAt}
-use Rattle.chars.specs.Reader.{stepOf, Begins}
+use Rattle.chars.specs.Reader.{Begins, Moves}
 use Rattle.chars.specs.declared.Step.{Step}
 use Rattle.chars.specs.declared.StrChars.{StrChars}
 use Rattle.chars.specs.declared.Opened.{Opened}
@@ -112,11 +111,6 @@ cell l h = fat fullShare reader l 0 (T′.lowered h)
 
 abbrev held : Lft → StrChars → Fml
 held κ h = R κ .own h (T′.lowered h ∷ [])
-
--- what `next` says of the reader before and after a step
-abbrev Took : StrChars → Step → StrChars → Type 0
-Took h t h′ = (stepOf t ≡ stepAt (now (h .bytes)) (h .at) (h .done) .step) × (h′ .bytes ≡ h .bytes)
-    × (h′ .at ≡ stepAt (now (h .bytes)) (h .at) (h .done) .at) × (h′ .done ≡ stepAt (now (h .bytes)) (h .at) (h .done) .done)
 
 -- ---- the locals' other types, and the function with all of them written out: to spell them anew at each step takes antt too long
 abbrev slice : Ty
@@ -213,18 +207,18 @@ module _ {M : Type 1} (𝓤 : URA M) (H : Heap 𝓤) (A : Atoms 𝓤) (W : Rules
 
   -- the step and its machine value, and the reader after it
   abbrev Back : ℕ → StrChars → Val → Step → StrChars → Item 𝓤
-  Back l h w t h′ = given (Took h t h′) (‵ (cell l h′) ⊛ ‵ (held κ h′) ⊛ ‵ (flft κ q) ⊛ ‵ (E.the-row .own t (w ∷ [])))
+  Back l h w t h′ = given (Moves h t h′) (‵ (cell l h′) ⊛ ‵ (held κ h′) ⊛ ‵ (flft κ q) ⊛ ‵ (E.the-row .own t (w ∷ [])))
 
   abbrev Answered : ℕ → ℕ → GName → StrChars → Val → Step → Item 𝓤
   Answered l a γ h w t = ((‵ (flft (a ∷ κ) left) ⊛ ‵ (flft κ right) ⊛ ‵ ftrue) ⊛ ‵ (E.the-row .own t (w ∷ [])))
-      ⊛ some (λ (ws : Lasts next.ended (a ∷ κ, (κ, tt)) (ref l γ h, tt)). ‵ (lasts next.ended (a ∷ κ, (κ, tt)) (ref l γ h, tt) ws) ⊛ raw (fact 𝓤 (Took h t (ws .0))))
+      ⊛ some (λ (ws : Lasts next.ended (a ∷ κ, (κ, tt)) (ref l γ h, tt)). ‵ (lasts next.ended (a ∷ κ, (κ, tt)) (ref l γ h, tt) ws) ⊛ raw (fact 𝓤 (Moves h t (ws .0))))
 
   comes-back : (l a : ℕ) (γ : GName) (h : StrChars) (w : Val)
       → ent 𝓤 (⋆ 𝓤 H A (raw (Next 𝓤 H A mem run .post (to-next l a γ h) w) ∷ ‵ (lent l a γ) ∷ raw (Rest 𝓤 H A W a left) ∷ [])) (⋆ 𝓤 H A (later (some (λ (t : Step). some (Back l h w t))) ∷ []))
   unfolding partOf
   comes-back l a γ h w =
       qed W (raw (Next 𝓤 H A mem run .post (to-next l a γ h) w) ∷ ‵ (lent l a γ) ∷ raw (Rest 𝓤 H A W a left) ∷ []) ∵ updating ! $
-      use1 W (later (some (Answered l a γ h w))) (id⊢ 𝓤 _) $ await ! tt $ pick ! (λ t. split ! $ move ! (1 ∷ []) $ pick ! (λ ws. split ! $ move ! (1 ∷ []) $ heard ! (Took h t (ws .0)) (λ e. fsplit ! $
+      use1 W (later (some (Answered l a γ h w))) (id⊢ 𝓤 _) $ await ! tt $ pick ! (λ t. split ! $ move ! (1 ∷ []) $ pick ! (λ ws. split ! $ move ! (1 ∷ []) $ heard ! (Moves h t (ws .0)) (λ e. fsplit ! $
       -- [the last value; true; the tokens and what the step owns; the lender's part; the rest of the new lifetime's token]
       move ! (2 ∷ []) $ split ! $ split3 ! $ move ! (0 ∷ 7 ∷ []) $ use2 W (later (‵ (fdead (a ∷ κ)) ⊛ ‵ (flft κ left))) (within-end 𝓤 H A W a κ left) $ await ! tt $ split ! $
       move ! (1 ∷ 2 ∷ []) $ use2 W (‵ (flft κ q)) (W .lfts .lft-join κ q) $
@@ -381,7 +375,7 @@ module _ {M : Type 1} (𝓤 : URA M) (H : Heap 𝓤) (A : Atoms 𝓤) (W : Rules
         Turns i h g u X = ent 𝓤 (⋆ 𝓤 H A (At i h g u)) (Wp 𝓤 H C Λ En mir′.turn-1 (afterTurn 𝓤 H X Left))
 
         -- a turn that takes a step: the reader is lent, and its step noted
-        more : (i : ℕ) (h : StrChars) (g : Given) (u : Val) (X : SProp 𝓤) → i < 12 → ((h′ : StrChars) (t : Step) (u′ : Val) → Took h t h′ → ent 𝓤 (⋆ 𝓤 H A (At (i + 1) h′ (with g i t) u′)) X) → Turns i h g u X
+        more : (i : ℕ) (h : StrChars) (g : Given) (u : Val) (X : SProp 𝓤) → i < 12 → ((h′ : StrChars) (t : Step) (u′ : Val) → Moves h t h′ → ent 𝓤 (⋆ 𝓤 H A (At (i + 1) h′ (with g i t) u′)) X) → Turns i h g u X
         unfolding afterTurn
         more i h g u X small k =
             qed W (At i h g u) ∵ exec ! C Λ En mir′.turn-1 (anyQ (afterTurn 𝓤 H X Left)) $
@@ -429,14 +423,14 @@ module _ {M : Type 1} (𝓤 : URA M) (H : Heap 𝓤) (A : Atoms 𝓤) (W : Rules
             twelve = omega (arith, e .place)
         turn-at x i (suc n) h g u z e = more i h g u (Less x) (omega (arith, e .place)) (λ h′ t u′ took. qed W (Inv (below h′ t u′ took)) ∵ again ! (fewer (now s)) Inv x (below h′ t u′ took) (omega (arith, z)))
           where
-            below : (h′ : StrChars) (t : Step) (u′ : Val) → Took h t h′ → State (now s)
+            below : (h′ : StrChars) (t : Step) (u′ : Val) → Moves h t h′ → State (now s)
             below h′ t u′ took = record {
               i = i + 1;
               left = n;
               h = h′;
               g = with g i t;
               u = u′;
-              going = goes-on (now s) (now (h .bytes)) (h .at) (h .done) g i n t (now (h′ .bytes)) (h′ .at) (h′ .done) e (took .0) (ap now (took .1)) (took .2) (took .3);
+              going = goes-on (now s) h g i n t h′ e took;
             }
 
         looped : (h : StrChars) (g : Given) (u : Val) → Going (now s) (now (h .bytes)) (h .at) (h .done) g 0 12 → ent 𝓤 (⋆ 𝓤 H A (At 0 h g u)) (Wp 𝓤 H C Λ En (loop mir′.turn-1) Left)
