@@ -4,3 +4,4 @@ pub mod Refusals
 pub mod StepLaws
 pub mod ListLaws
 pub mod RangeLaws
+pub mod ScrollLaws

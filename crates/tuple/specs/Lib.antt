@@ -3,3 +3,4 @@ pub mod Numbers
 pub mod StepNumbers
 pub mod Lists
 pub mod Ranges
+pub mod Scrolling
