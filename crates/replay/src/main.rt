@@ -12,10 +12,10 @@ ghost use lib.ListN.{length};
 ghost use Rattle.lines.specs.Counts.{Counts};
 
 // The names of the calls, of which each call's number is the place.
-fn names() -> [u8; 343]
-    ensures { λ r. ⌜ 343 ≡ length r ⌝ }
+fn names() -> [u8; 349]
+    ensures { λ r. ⌜ 349 ≡ length r ⌝ }
 {
-    *b"encode_typed encode_key decode_typed decode_key check_key skip compare strinc above_field bounds replace get_i64 get_u64 get_str get_bytes put_i64 put_u64 put_fact_id put_str put_bytes take_null take_i64 take_u64 take_fact_id open_record open_union close is_record_end take_str take_bytes put_null put_record put_end put_union chars_next chars"
+    *b"encode_typed encode_key decode_typed decode_key check_key skip compare strinc above_field bounds replace get_i64 get_u64 get_str get_bytes put_i64 put_u64 put_fact_id put_str put_bytes take_null take_i64 take_u64 take_fact_id open_record open_union close is_record_end take_str take_bytes put_null put_record put_end put_union chars_next chars names"
 }
 
 // The calls whose first arguments are a type and bytes.
@@ -56,6 +56,7 @@ fn with_bytes(call: usize, line: &[u8], bytes: &[u8]) -> bool {
         29 => cursors::take(line, false, bytes),
         34 => reader::next(line, bytes),
         35 => reader::chars(line, bytes),
+        36 => reader::names(line, bytes),
         _ => cursors::step(line, call, bytes),
     }
 }
@@ -74,7 +75,7 @@ fn agrees(call: usize, line: &[u8]) -> bool {
         15..=19 => fields::put(line, call),
         30..=32 => cursors::put(line, call),
         33 => cursors::put_union(line),
-        0..=35 => of_bytes(call, line),
+        0..=36 => of_bytes(call, line),
         _ => false,
     }
 }
@@ -89,17 +90,17 @@ fn judge(line: &[u8]) -> usize {
     show::text(b"differs: ");
     show::text(line);
     show::text(b"\n");
-    36
+    37
 }
 
 // How many lines of each call agree.
-fn counts(text: &[u8]) -> [u64; 37] {
-    let mut counts = [0; 37];
+fn counts(text: &[u8]) -> [u64; 38] {
+    let mut counts = [0; 38];
     let mut at = 0;
     while at < text.len() {
         let end = lines::find(text, at, b'\n');
         let call = judge(&text[at..end]);
-        if call < 37 {
+        if call < 38 {
             counts[call] = std::num::wrapping_add_u64(counts[call], 1);
         }
         at = end + 1;
@@ -107,9 +108,9 @@ fn counts(text: &[u8]) -> [u64; 37] {
     counts
 }
 
-fn totals(counts: [u64; 37]) {
+fn totals(counts: [u64; 38]) {
     let list = names();
-    for i in 0..36 {
+    for i in 0..37 {
         show::text(lines::field(&list, i));
         show::text(b" ");
         show::number(counts[i]);

@@ -1,4 +1,5 @@
 // chars_next: bytes-behind-the-mark place finished = refusal detail given code place finished. chars: bytes = refusal detail how-it-ended place codes.
+// names: bytes = refusal detail whether-get_str-accepts codes of the name that it decodes.
 use tuple::answers::Length;
 use tuple::reader;
 
@@ -66,9 +67,24 @@ fn behind(bytes: &[u8]) -> &[u8] {
     bytes
 }
 
+// A reader that was opened and came to the end shows the name; one that refused shows none.
+fn named(line: &[u8], o: Length, r: Characters, codes: &[u64; 8193]) -> bool {
+    let ends = flag(o.refusal == 0 && r.refusal == 0);
+    let count = if ends == 1 { r.count } else { 0 };
+    lines::are_decimals(line, 3, &[o.refusal as u64, o.detail, ends])
+        & lines::is_words(line, 6, count as usize, codes)
+}
+
 pub fn chars(line: &[u8], bytes: &[u8]) -> bool {
     let o = reader::tuple_str_chars(bytes);
     let mut codes = [0; 8193];
     let r = run(behind(bytes), o.refusal != 0, &mut codes);
     whole(line, o, r, &codes)
+}
+
+pub fn names(line: &[u8], bytes: &[u8]) -> bool {
+    let o = reader::tuple_str_chars(bytes);
+    let mut codes = [0; 8193];
+    let r = run(behind(bytes), o.refusal != 0, &mut codes);
+    named(line, o, r, &codes)
 }

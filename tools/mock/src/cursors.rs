@@ -220,8 +220,10 @@ pub unsafe extern "C" fn tuple_str_chars(bytes: *const u8, bytes_len: usize) -> 
 #[unsafe(no_mangle)]
 pub unsafe extern "C" fn tuple_chars_next(bytes: *const u8, bytes_len: usize, at: usize, done: bool) -> Char {
     let bytes = unsafe { given(bytes, bytes_len) };
-    let finished =
-        |refusal| Char { refusal, detail: 0, given: 0, code: 0, at: at as u64, done: !(has(Fault::CharsRepeat) && refusal != 0) };
+    let finished = |refusal| {
+        let refusal = if has(Fault::CharsSilent) { 0 } else { refusal };
+        Char { refusal, detail: 0, given: 0, code: 0, at: at as u64, done: !(has(Fault::CharsRepeat) && refusal != 0) }
+    };
     if done {
         return finished(0);
     }
@@ -229,6 +231,10 @@ pub unsafe extern "C" fn tuple_chars_next(bytes: *const u8, bytes_len: usize, at
     let gives = |code: u32, len: usize| Char { refusal: 0, detail: 0, given: 1, code, at: (at + len) as u64, done: false };
     let width = match rest {
         [] => return finished(UNEXPECTED_EOF),
+        [0, 0xFF, ..] if has(Fault::CharsEscapes) => return gives(0, 1),
+        [0xFF, ..] if has(Fault::CharsEscapes) && at > 0 && bytes[at - 1] == 0 => return gives(0xFF, 1),
+        [byte @ 0x80..=0xFF, ..] if has(Fault::CharsBytes) => return gives(u32::from(*byte), 1),
+        [0xC2, 0, 0xFF, 0x80..=0xBF, ..] if has(Fault::CharsJoined) => return gives(u32::from(rest[3]), 4),
         [0, 0xFF, ..] => return gives(0, 2),
         [0, ..] => return finished(0),
         [0xC0..=0xDF, ..] => 2,

@@ -65,6 +65,10 @@ faults! {
     DeepCursor "deep-cursor",
     CharsCut "chars-cut",
     CharsRepeat "chars-repeat",
+    CharsEscapes "chars-escapes",
+    CharsBytes "chars-bytes",
+    CharsSilent "chars-silent",
+    CharsJoined "chars-joined",
 }
 
 pub fn has(fault: Fault) -> bool {

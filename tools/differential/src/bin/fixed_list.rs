@@ -82,7 +82,7 @@ fn refusals(kind: Kind) -> &'static [u32] {
         IsRecordEnd => &[0, 1],
         PutRecord | PutUnion | PutEnd => &[0, 6, 17],
         CharsNext => &[0, 1, 4],
-        Chars => &[0, 1, 2],
+        Chars | Names => &[0, 1, 2],
     }
 }
 

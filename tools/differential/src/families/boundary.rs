@@ -151,7 +151,7 @@ pub fn runs(work: &mut Work, _input: u64, sink: &mut dyn Sink) {
     work.send_with(Kind::CharsNext, &[place, 0], sink);
 
     work.set_bytes(&bytes);
-    work.send_all(&[Kind::GetStr, Kind::GetBytes, Kind::Chars], sink);
+    work.send_all(&[Kind::GetStr, Kind::GetBytes, Kind::Chars, Kind::Names], sink);
     work.skip_from(0, sink);
     work.send_with(Kind::TakeStr, &[0, 1], sink);
     work.send_with(Kind::TakeBytes, &[0, 1], sink);

@@ -36,7 +36,7 @@ fn each_of_bytes3(work: &mut Work, string: &[u8], sink: &mut dyn Sink) {
     for start in 0..=string.len() as u64 + 1 {
         work.skip_from(start, sink);
     }
-    work.send_all(&[Kind::Strinc, Kind::AboveField, Kind::Chars], sink);
+    work.send_all(&[Kind::Strinc, Kind::AboveField, Kind::Chars, Kind::Names], sink);
     work.send_with(Kind::CharsNext, &[0, 0], sink);
     work.send_with(Kind::PutStr, &[0], sink);
     work.send_with(Kind::PutBytes, &[0], sink);
@@ -46,11 +46,14 @@ fn each_of_bytes3(work: &mut Work, string: &[u8], sink: &mut dyn Sink) {
         work.call.bytes.extend_from_slice(string);
         work.send(reader, sink);
         if mark == 0x21 {
-            work.send(Kind::Chars, sink);
+            work.send_all(&[Kind::Chars, Kind::Names], sink);
         }
         work.send_with(Kind::Skip, &[0, 0], sink);
         work.call.bytes.push(0);
         work.send(reader, sink);
+        if mark == 0x21 {
+            work.send(Kind::Names, sink);
+        }
     }
 }
 
@@ -60,7 +63,7 @@ const LONGEST_RUN: usize = 300;
 pub const PLACES_INPUTS: u64 = LONGEST_RUN as u64 + 1;
 
 /// What stands at one place of a payload that is plain otherwise.
-const TELLING_PARTS: [&[u8]; 6] = [b"\0", b"\xFF", b"\0\0", "é".as_bytes(), "€".as_bytes(), "𐍈".as_bytes()];
+const TELLING_PARTS: [&[u8]; 7] = [b"\0", b"\xFF", b"\0\0", "é".as_bytes(), "€".as_bytes(), "𐍈".as_bytes(), b"\xC2\0\xA9"];
 
 /// A payload of a given length, with each of these at each place.
 pub fn places(work: &mut Work, input: u64, sink: &mut dyn Sink) {
@@ -75,10 +78,16 @@ pub fn places(work: &mut Work, input: u64, sink: &mut dyn Sink) {
                 work.call.bytes.clear();
                 write_run(mark, &payload, &mut work.call.bytes);
                 work.send(reader, sink);
+                if mark == 0x21 {
+                    work.send(Kind::Names, sink);
+                }
                 work.send_with(Kind::Skip, &[0, 0], sink);
                 // the end missing
                 work.call.bytes.pop();
                 work.send(reader, sink);
+                if mark == 0x21 {
+                    work.send(Kind::Names, sink);
+                }
             }
             work.call.ty = vec![3];
             work.call.words = vec![3, payload.len() as u64];

@@ -96,7 +96,7 @@ pub fn cursors(work: &mut Work, _input: u64, sink: &mut dyn Sink) {
     }
     for (at, _) in key.iter().enumerate().filter(|(_, byte)| **byte == 0x21) {
         work.set_bytes(&key[at..]);
-        work.send(Kind::Chars, sink);
+        work.send_all(&[Kind::Chars, Kind::Names], sink);
     }
     let len = generate::length(&mut work.random);
     let mut text = generate::text(&mut work.random, len);
@@ -105,8 +105,8 @@ pub fn cursors(work: &mut Work, _input: u64, sink: &mut dyn Sink) {
     }
     text.insert(0, 0x21);
     work.set_bytes(&text);
-    work.send(Kind::Chars, sink);
+    work.send_all(&[Kind::Chars, Kind::Names], sink);
     text.push(0);
     work.set_bytes(&text);
-    work.send(Kind::Chars, sink);
+    work.send_all(&[Kind::Chars, Kind::Names], sink);
 }

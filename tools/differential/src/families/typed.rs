@@ -83,7 +83,7 @@ pub fn damaged(work: &mut Work, _input: u64, sink: &mut dyn Sink) {
 fn on_key(work: &mut Work, ty: &Ty, key: &[u8], sink: &mut dyn Sink) {
     work.set_bytes(key);
     work.send_all(&DECODING, sink);
-    work.send_all(&[Kind::Strinc, Kind::AboveField, Kind::Chars], sink);
+    work.send_all(&[Kind::Strinc, Kind::AboveField, Kind::Chars, Kind::Names], sink);
     work.send_all(&READERS, sink);
     let last = key.len().min(40) as u64 + 1;
     for start in 0..=last {
@@ -111,7 +111,7 @@ fn on_key(work: &mut Work, ty: &Ty, key: &[u8], sink: &mut dyn Sink) {
     work.call.bytes.truncate(key.len());
     if let Some(start) = key.iter().position(|byte| matches!(byte, 0x21 | 0x53)) {
         work.set_bytes(&key[start..]);
-        work.send_all(&[Kind::GetStr, Kind::GetBytes, Kind::Chars], sink);
+        work.send_all(&[Kind::GetStr, Kind::GetBytes, Kind::Chars, Kind::Names], sink);
     }
 }
 
@@ -157,7 +157,7 @@ pub fn wild(work: &mut Work, _input: u64, sink: &mut dyn Sink) {
     work.send_all(&DECODING, sink);
     work.send(Kind::Compare, sink);
     work.send_all(&READERS, sink);
-    work.send_all(&[Kind::Strinc, Kind::AboveField, Kind::Chars], sink);
+    work.send_all(&[Kind::Strinc, Kind::AboveField, Kind::Chars, Kind::Names], sink);
     for kind in [
         Kind::Skip,
         Kind::Bounds,

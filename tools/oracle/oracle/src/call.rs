@@ -39,11 +39,12 @@ pub enum Kind {
     PutEnd,
     CharsNext,
     Chars,
+    Names,
 }
 
 use Kind::*;
 
-pub const KINDS: [Kind; 36] = [
+pub const KINDS: [Kind; 37] = [
     EncodeTyped,
     EncodeKey,
     DecodeTyped,
@@ -80,6 +81,7 @@ pub const KINDS: [Kind; 36] = [
     PutEnd,
     CharsNext,
     Chars,
+    Names,
 ];
 
 /// An argument, and the place in [`Call`] that holds it. A room is the length of a lent buffer.
@@ -209,6 +211,7 @@ impl Kind {
             PutEnd => shape!("put_end", "cursors", [Room(0), Number(0), Number(1)], ["value", "at", "depth"], [Bytes]),
             CharsNext => shape!("chars_next", "chars", [Bytes, Number(0), Number(1)], ["given", "code", "at", "done"], []),
             Chars => shape!("chars", "chars", [Bytes], ["last", "at"], [Words]),
+            Names => shape!("names", "chars", [Bytes], ["ends"], [Words]),
         }
     }
 }

@@ -4,7 +4,7 @@ use crate::call::{Call, Kind};
 use crate::refusal::*;
 use crate::sheet::{admit_type, admit_value, write_sheet};
 use crate::steps::{self, Char, Moved, Payload};
-use fjord_encoding::tuple::{self, TupleEncoder, Value};
+use fjord_encoding::tuple::{self, MARK_STRING, TupleEncoder, Value};
 use fjord_schema::id::FactId;
 use fjord_schema::schema::{LocalInterner, PredicateTy, SchemaInterner};
 use std::borrow::Cow;
@@ -211,6 +211,15 @@ impl Oracle {
                 let ((last, _), at) = steps::chars(&call.bytes, &mut self.outcome.words)?;
                 Ok(answered(&[u64::from(last), at]))
             }
+            // what a new reader must show: the name that get_str decodes and the end, else a refusal
+            Names => match tuple::get_str(&call.bytes) {
+                Ok((name, _)) => {
+                    self.outcome.words.extend(name.chars().map(u64::from));
+                    Ok(answered(&[1]))
+                }
+                Err(_) if call.bytes.first() == Some(&MARK_STRING) => Ok(answered(&[0])),
+                Err(error) => Err(refusal(&error)),
+            },
         }
     }
 

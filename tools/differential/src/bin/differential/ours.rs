@@ -204,6 +204,8 @@ impl Ours {
                 }
                 #[cfg(feature = "chars")]
                 Chars => self.chars(&call.bytes),
+                #[cfg(feature = "chars")]
+                Names => self.names(&call.bytes),
                 #[allow(unreachable_patterns)]
                 other => unreachable!("{} is not built in", other.shape().name),
             }
@@ -237,6 +239,23 @@ impl Ours {
         }
     }
 
+    /// Whether a new reader comes to the end, and the characters before it; 0 where it refuses, 2 where it does neither in as many steps as there are bytes behind the
+    /// mark, and one.
+    #[cfg(feature = "chars")]
+    fn names(&mut self, bytes: &[u8]) -> Answer {
+        let Answer { refusal, detail, numbers: [last, at, ..] } = self.chars(bytes);
+        let ends = match last {
+            _ if refusal != 0 => 0,
+            _ if at == u64::MAX || self.codes.len() >= bytes.len() => 2,
+            0 => 1,
+            _ => 0,
+        };
+        if ends == 0 {
+            self.codes.clear();
+        }
+        answer(refusal, detail, &[ends])
+    }
+
     /// Whether the library gives this answer, writes what the outcome has and nothing else.
     pub fn agrees(&mut self, call: &Call, expected: &Answer, outcome: &Outcome) -> bool {
         let given = self.run(call);
@@ -253,7 +272,7 @@ impl Ours {
         match call.kind {
             CheckKey | Skip | Compare | GetI64 | GetU64 | TakeNull | TakeI64 | TakeU64 | TakeFactId | OpenRecord | OpenUnion | Close
             | IsRecordEnd | CharsNext => true,
-            Chars => !accepted || self.codes == words,
+            Chars | Names => !accepted || self.codes == words,
             DecodeTyped | DecodeKey => self.words.holds(room, 0, words) & self.pool.holds(other_room, 0, pool),
             Bounds => self.bytes.holds(room, 0, bytes) & self.pool.holds(other_room, 0, pool),
             Replace => self.bytes.filled_with(bytes, &call.bytes[bytes.len()..]),
@@ -287,7 +306,7 @@ impl Ours {
                     outcome.bytes = self.bytes.held(0, number(2).min(room)).to_vec();
                 }
             }
-            Kind::Chars => outcome.words.clone_from(&self.codes),
+            Kind::Chars | Kind::Names => outcome.words.clone_from(&self.codes),
             Kind::PutI64 | Kind::PutU64 | Kind::PutStr | Kind::PutBytes | Kind::PutFactId => {
                 let from = usize::try_from(call.numbers[0]).unwrap_or(usize::MAX).min(room);
                 outcome.bytes = self.bytes.held(from, number(0).clamp(from, room)).to_vec();
