@@ -1,4 +1,5 @@
-// The string reader: a struct that holds the bytes behind the mark, a place and a finished flag, over covered functions on slice, place and flag.
+// The string reader: a struct that holds the bytes behind the mark, a place and a finished flag, over covered functions on slice, place and flag. A new one gives the name
+// that get_str decodes, or refuses: theorem scrolls, from the contracts of str_chars, next, get_str and payload.
 ghost use mathlib.Core.Path.{_≡_};
 ghost use mathlib.Core.Bool.{false};
 ghost use Prim.Native.Nat.{_<_, _+_};
