@@ -188,7 +188,10 @@ tuple_step tuple_put_union(uint8_t *out, size_t out_len, size_t at, size_t depth
 /* ends the open group; refusal 6 at depth 0 */
 tuple_step tuple_put_end(uint8_t *out, size_t out_len, size_t at, size_t depth);
 
-/* ---- the string reader: a Str's characters one by one, its bytes, place and finished flag held by the caller */
+/* ---- the string reader: a Str's characters one by one, its bytes, place and finished flag held by the caller. What a new reader has given so far is the
+ * beginning of the name that tuple_get_str decodes from the same bytes, and the end comes right after its last character, also where tuple_get_str is short of
+ * scratch (17). Where that refuses otherwise, a refusal comes before any end; its number may be another. Either comes within as many steps as there are bytes behind
+ * the mark, and one (theorem scrolls, crates/tuple/proofs/ScrollLaws.antt). */
 
 /* checks a Str's mark: the reader's bytes are those behind it, its first place is 0, and it is not finished. length 0; refusals 1, 2 */
 tuple_length tuple_str_chars(const uint8_t *bytes, size_t bytes_len);

@@ -251,11 +251,16 @@ pub struct StrChars<'a> {
 
 /// The characters of the text at the beginning of the bytes, without a look ahead.
 ///
+/// What a new reader has given so far is the beginning of the text that [`get_str`](crate::get_str) decodes from the same bytes, and the end comes right after its last
+/// character. Where `get_str` refuses, so does the reader, before any end; its refusal may be another. Either comes within as many steps as there are bytes behind the
+/// first, and one (theorem `scrolls` of crate `tuple`).
+///
 /// ```
 /// let chars: Result<String, _> = tuple::str_chars(b"\x21ink \x00\xFF\xC2\xB5\x00rest")?.collect();
 /// assert_eq!(chars?, "ink \0µ");
 /// let mut cut = tuple::str_chars(&[0x21, 0xE2, 0x00])?;
 /// assert_eq!((cut.next(), cut.next()), (Some(Err(tuple::Refusal::UnexpectedEof)), None));
+/// assert_eq!(tuple::get_str(&[0x21, 0xE2, 0x00]), Err(tuple::Refusal::BadString));
 /// # Ok::<(), tuple::Refusal>(())
 /// ```
 pub fn str_chars(bytes: &[u8]) -> Result<StrChars<'_>, Refusal> {

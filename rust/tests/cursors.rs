@@ -3,7 +3,7 @@
 mod common;
 
 use common::Random;
-use tuple::{FactId, Refusal, TupleDecoder, TupleEncoder, Value, encode_typed, put_str, str_chars};
+use tuple::{FactId, Refusal, TupleDecoder, TupleEncoder, Value, encode_typed, get_str, put_str, str_chars};
 
 fn put(out: &mut TupleEncoder, value: &Value) -> Result<(), Refusal> {
     match value {
@@ -123,4 +123,41 @@ fn a_text_character_by_character() {
     assert_eq!((bad.next(), bad.next()), (None, None));
     assert_eq!(str_chars(&[0x53]).map(|_| ()), Err(Refusal::UnexpectedMark(0x53)));
     assert_eq!(str_chars(&[]).map(|_| ()), Err(Refusal::UnexpectedEof));
+}
+
+/// The reader on bytes behind the mark 21: what it gives at every number of steps, beside the name.
+fn name_beside_reader(bytes: &[u8]) {
+    let mut steps: Vec<_> = str_chars(bytes).unwrap().take(bytes.len() + 2).collect();
+    match get_str(bytes) {
+        Ok((name, _)) => assert_eq!(steps, name.chars().map(Ok).collect::<Vec<_>>(), "{bytes:02X?}"),
+        Err(_) => {
+            assert!(matches!(steps.pop(), Some(Err(_))), "{bytes:02X?}");
+            assert!(steps.iter().all(Result::is_ok), "{bytes:02X?}");
+        }
+    }
+    assert!(steps.len() < bytes.len(), "{bytes:02X?}");
+}
+
+#[test]
+fn a_name_is_what_the_reader_gives() {
+    const TELLING: [u8; 12] = [0x00, 0x41, 0x7F, 0x80, 0xA9, 0xBF, 0xC2, 0xE2, 0xED, 0xF0, 0xF5, 0xFF];
+    for len in 0..=5 {
+        for number in 0..12_usize.pow(len) {
+            let digits = (0..len).map(|place| TELLING[number / 12_usize.pow(place) % 12]);
+            name_beside_reader(&[0x21].into_iter().chain(digits).collect::<Vec<u8>>());
+        }
+    }
+    for name in ["ultramarine blue", "Grün 5 µm", "20 € 🎨", "\0", "a\0µ本\u{10FFFF}\0\0z"] {
+        let mut out = Vec::new();
+        put_str(&mut out, name);
+        out.extend([0x80, 0x00]);
+        name_beside_reader(&out);
+        for cut in 1..out.len() {
+            name_beside_reader(&out[..cut]);
+        }
+    }
+    for other in [&[0x22, 0x00][..], &[0x53, 0x41, 0x00], &[]] {
+        assert_eq!(str_chars(other).err(), get_str(other).err());
+        assert!(str_chars(other).is_err());
+    }
 }

@@ -65,9 +65,17 @@ grep -rhoE 'theorem `?[a-z0-9-]+' README.md include crates/*/src rust/src | tr -
 sed 's/^theorem //' "$made/named" | while read -r theorem; do
     grep -rqE "^pub $theorem :" crates/*/proofs --include='*.antt' || { echo "no crate has theorem $theorem"; exit 1; }
 done
-for place in include/tuple.h crates/tuple/src/keys.rt rust/src/lib.rs; do
-    grep -qE 'theorem `?strinc-tight' "$place" || { echo "$place does not name the theorem on strinc"; exit 1; }
-done
+while read -r theorem place; do
+    grep -qE "theorem \`?$theorem" "$place" || { echo "$place does not name theorem $theorem"; exit 1; }
+done <<'END'
+strinc-tight include/tuple.h
+strinc-tight crates/tuple/src/keys.rt
+strinc-tight rust/src/lib.rs
+scrolls include/tuple.h
+scrolls crates/tuple/src/reader.rt
+scrolls crates/chars/src/lib.rt
+scrolls rust/src/cursor.rs
+END
 sequences=$(sed -n 's/^pub const SEQUENCES: u64 = \([0-9a-fx_]*\);$/\1/p' crates/format/src/lib.rt | tr -d _)
 {
     echo '#include "include/tuple.h"'

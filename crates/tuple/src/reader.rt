@@ -1,4 +1,5 @@
-// The string reader: the bytes behind the mark, a place and a finished flag, all held by the caller.
+// The string reader: the bytes behind the mark, a place and a finished flag, all held by the caller. What its steps give beside tuple_get_str's answer to the same
+// bytes is theorem scrolls, which has it from these contracts and from theorem names of chars.
 use crate::answers::Length;
 use crate::steps;
 use crate::steps::CharStep;
