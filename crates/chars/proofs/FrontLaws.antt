@@ -8,7 +8,7 @@ use native.Mathlib.Omega.{arith}
 use lib.Dec.{eqb}
 use lib.ListN.{length, take, drop, length-append}
 use lib.Seq.{take-append-seam}
-use borrow.Author.Tests.{ne-eqb, eqb-true, eqb-false}
+use borrow.Author.Tests.{eqb-true}
 use Rattle.format.specs.Scalar.{escaped}
 use Rattle.format.specs.Utf8.{firstChar, widthOf, utf8}
 use Rattle.format.specs.Read.{Read, got, bad, consRead, getRun}

@@ -3,12 +3,11 @@ use mathlib.Core.Path.{_≡_, refl}
 use mathlib.Core.List.{List, [], _∷_}
 use Prim.Native.Nat.{ℕ}
 use lib.ListN.{replicate}
-use Rattle.format.specs.Answer.{Answer, ok, refused}
-use Rattle.format.specs.Scalar.{escaped}
+use Rattle.format.specs.Answer.{Answer, refused}
 use Rattle.format.specs.Utf8.{firstChar, second, third, fourth, lead3, lead4, textFrom}
 use Rattle.format.specs.Read.{getRun, startsFF, getStr}
 use Rattle.format.specs.Fields.{Taken, Place, hasZero, getStrCall}
-use Rattle.format.specs.Chars.{Step, leadWidth, stepOn, stepAt, opened}
+use Rattle.format.specs.Chars.{Step, leadWidth, stepOn, stepAt}
 use Rattle.chars.specs.Names.{stepsFrom, stepsOf, codesFrom, codesOf, nameIn}
 
 abbrev decoded : (bytes scratch : List ℕ) → List ℕ
@@ -26,9 +25,9 @@ codes-agree = refl
 abbrev name : List ℕ
 name = 0x21 ∷ 0xC3 ∷ 0xA9 ∷ 0x00 ∷ 0xFF ∷ 0x41 ∷ 0x00 ∷ []
 
-pub name-agrees : stepsOf name 5 ≡ Step.char 0xE9 ∷ Step.char 0x00 ∷ Step.char 0x41 ∷ Step.end ∷ Step.end ∷ []
+pub name-agrees : (stepsOf name 1 ≡ Step.char 0xE9 ∷ []) × (stepsOf name 5 ≡ Step.char 0xE9 ∷ Step.char 0x00 ∷ Step.char 0x41 ∷ Step.end ∷ Step.end ∷ [])
 unfolding stepsFrom stepAt stepOn startsFF leadWidth textFrom firstChar second third fourth lead3 lead4
-name-agrees = refl
+name-agrees = (refl, refl)
 
 pub name-decoded : (decoded name (replicate 4 0) ≡ 0xC3 ∷ 0xA9 ∷ 0x00 ∷ 0x41 ∷ []) × (refusal name (replicate 3 0) ≡ refused 17 4)
 unfolding getStrCall getStr getRun hasZero textFrom firstChar second third fourth lead3 lead4

@@ -6,13 +6,13 @@ use mathlib.Core.Bool.{Bool, true, false}
 use mathlib.Core.List.{List, [], _∷_, _++_}
 use Prim.Native.Nat.{ℕ, zero, suc, _+_, _-_, _≤_, _<_}
 use native.Mathlib.Omega.{arith}
-use lib.Dec.{leb, eqb}
+use lib.Dec.{eqb}
 use lib.ListN.{length, take, drop, replicate, length-append, length-drop, length-take}
 use lib.Seq.{drop-drop, take-append-seam}
 use borrow.Author.Tests.{eq-eqb, ne-eqb, lt-ltb, le-ltb, eqb-true}
 use Rattle.format.specs.Answer.{if, Answer, ok, refused, shown, noRoom, NoRoom, BadString, UnexpectedEof}
 use Rattle.format.specs.Utf8.{firstChar, widthOf, codeOf, utf8, textFrom}
-use Rattle.format.specs.Read.{Read, got, bad, thenRead, consRead, getRun, afterZero, startsFF, getStr}
+use Rattle.format.specs.Read.{Read, got, bad, consRead, getRun, afterZero, startsFF, getStr}
 use Rattle.format.specs.Fields.{Taken, Place, inKey, inScratch, Payload, hasZero, placed, placedFrom, getStrCall}
 use Rattle.format.specs.Calls.{over}
 use Rattle.format.specs.Chars.{Step, leadWidth, finished, gave, sequenceAt, stepOn, stepAt, opened}
@@ -169,7 +169,6 @@ module _ (s : List ℕ) (at : ℕ) (ih : (next : ℕ) → length (drop next s) <
     at-good : (k : ℕ) → leadWidth b ≡ suc k → suc k ≤ length (b ∷ r) → utf8 (take (leadWidth b) (b ∷ r)) ≡ true → Follows s at (getRun (b ∷ r))
     unfolding getRun
     at-good k w h f =
-        let c : ℕ = codeOf (firstChar (b ∷ r)) in
         let wide : widthOf (firstChar (b ∷ r)) ≡ suc k = eqb-true (widthOf (firstChar (b ∷ r))) (leadWidth b) (sym (lead-text b r) ∙ f) ∙ w in
         let lx : length (take k r) ≡ k = length-take k r ∙ omega (arith, h) in
         let same : firstChar (b ∷ take k r) ≡ firstChar (b ∷ r) = char-take (suc k) (b ∷ r) (omega (arith, wide)) in

@@ -1,14 +1,13 @@
 -- Steps and an answer of which only the contracts are known (specs/Scrolling) are those of the definitions, which `names` is about.
 use denote.Ref.{now}
-use mathlib.Core.Path.{_≡_, refl, sym, ap, _∙_}
+use mathlib.Core.Path.{_≡_, refl, sym, _∙_}
 use mathlib.Core.Bool.{Bool}
 use mathlib.Core.List.{List, [], _∷_, map}
 use Prim.Native.Nat.{ℕ}
 use lib.Dec.{eqb}
 use lib.ListN.{length}
 use borrow.Author.Tests.{eqb-true}
-use Rattle.format.specs.Answer.{Answer, ok, refused}
-use Rattle.format.specs.Fields.{Taken, Place, getStrCall, partOf}
+use Rattle.format.specs.Fields.{getStrCall}
 use Rattle.format.specs.Chars as chars
 use Rattle.format.proofs.EncodeLaws.{no-answer}
 use Rattle.scalar.specs.Answers.{gotPart}

@@ -1,9 +1,9 @@
 -- The twelve steps of a name that begins with the mark are the definition's, and so is get_str's answer; so they are what crate chars says of such steps (U14).
-use mathlib.Core.Path.{_≡_, refl, sym, ap, _∙_}
+use mathlib.Core.Path.{_≡_, refl, ap, _∙_}
 use mathlib.Core.Bool.{Bool}
 use mathlib.Core.List.{List, [], _∷_, map}
 use Prim.Native.Nat.{ℕ, zero, suc}
-use lib.ListN.{length, drop}
+use lib.ListN.{length}
 use Rattle.format.specs.Fields.{getStrCall, partOf}
 use Rattle.format.specs.Chars.{Step, stepAt}
 use Rattle.scalar.specs.Answers as scalar

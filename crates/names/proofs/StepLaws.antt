@@ -9,7 +9,7 @@ use native.Mathlib.Numerals.{add-one}
 use lib.ListN.{length, take, drop, set, length-set}
 use lib.Seq.{take-all, take-suc-set}
 use Rattle.format.specs.Chars.{Step, Stepped, stepAt}
-use Rattle.chars.specs.Reader.{stepOf, closed, Opens, Begins, Moves}
+use Rattle.chars.specs.Reader.{closed, Opens, Begins, Moves}
 use Rattle.chars.specs.declared.Step.{Step as Told}
 use Rattle.chars.specs.declared.StrChars.{StrChars}
 use Rattle.chars.specs.Names.{stepsFrom}

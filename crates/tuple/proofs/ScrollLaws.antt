@@ -6,9 +6,9 @@ use mathlib.Core.List.{List, [], _∷_, map}
 use Prim.Native.Nat.{ℕ}
 use native.Mathlib.Omega.{arith}
 use lib.ListN.{length}
-use Rattle.format.specs.Answer.{Answer, ok, refused, NoRoom}
+use Rattle.format.specs.Answer.{Answer, ok, refused}
 use Rattle.format.specs.Fields as fields
-use Rattle.format.specs.Fields.{Taken, Place, inKey, inScratch, Payload, getStrCall}
+use Rattle.format.specs.Fields.{Taken, Place, inKey, inScratch, getStrCall}
 use Rattle.format.specs.Chars.{Step, Stepped, stepAt, opened}
 use Rattle.format.proofs.Tests.{eqb-no}
 use Rattle.chars.specs.Names.{stepsFrom, stepsOf, nameIn, Shown, Named}
