@@ -23,7 +23,7 @@ use Rattle.text.proofs.Fronts.{width-fits, char-append, char-take}
 use Rattle.text.proofs.Texts.{text-append}
 use Rattle.text.proofs.Leads.{lead-some, lead-text}
 use Rattle.scalar.proofs.Escapes.{run-eof}
-use Rattle.chars.specs.Names.{stepsFrom, codesFrom, codesOf, giving, nameIn, Spells, Breaks, Named, Names}
+use Rattle.chars.specs.Names.{stepsFrom, stepsOf, codesFrom, codesOf, giving, nameIn, Shown, Spells, Breaks, Named, Names}
 use Rattle.chars.proofs.FrontLaws.{good-front, consAll, all-got, all-bad, char-over, plain-run}
 
 differ : false ≡ true → ⊥
@@ -50,35 +50,38 @@ module _ (s : List ℕ) (at : ℕ) where
   char-step c next codes last e h zero = refl
   char-step c next codes last e h (suc n) = rw e (ap (λ (l : List Step). Step.char c ∷ l) (h n))
 
--- from a place on: the characters of a payload and the end; or a refusal before any end
-record Reads (s : List ℕ) (at : ℕ) (p : List ℕ) : Type 0 where
-  steps : (n : ℕ) → stepsFrom s at false n ≡ giving (codesOf p) Step.end n
-  few : length (codesOf p) ≤ length (drop at s)
+-- the steps from a place on: these characters, which are no more than the bytes there, and then this
+record Runs (s : List ℕ) (at : ℕ) (codes : List ℕ) (last : Step) : Type 0 where
+  steps : (n : ℕ) → stepsFrom s at false n ≡ giving codes last n
+  few : length codes ≤ length (drop at s)
 
+-- a refusal before any end
 record Stops (s : List ℕ) (at : ℕ) : Type 0 where
   codes : List ℕ
   refusal : ℕ
   detail : ℕ
-  steps : (n : ℕ) → stepsFrom s at false n ≡ giving codes (Step.bad refusal detail) n
-  few : length codes ≤ length (drop at s)
+  runs : Runs s at codes (Step.bad refusal detail)
 
--- what the steps from a place on are, by what the run from there reads
+-- what the steps from a place on are, by what the run from there reads: a text's characters and the end, or a refusal
 abbrev Follows : (s : List ℕ) (at : ℕ) → Read (List ℕ) → Type 0
-Follows s at (Read.got p rest) = (utf8 p ≡ true → Reads s at p) × (utf8 p ≡ false → Stops s at)
+Follows s at (Read.got p rest) = (utf8 p ≡ true → Runs s at (codesOf p) Step.end) × (utf8 p ≡ false → Stops s at)
 Follows s at (Read.bad n d) = Stops s at
 
 module _ (s : List ℕ) (at : ℕ) where
+  ends-with : (last : Step) → stepAt s at false ≡ finished last at → Runs s at [] last
+  ends-with last e = record { steps = last-step s at last e; few = omega arith }
+
   -- the end
   at-end : (rest : List ℕ) → stepAt s at false ≡ finished Step.end at → Follows s at (got [] rest)
   unfolding codesFrom textFrom
-  at-end rest e = (λ u. record { steps = last-step s at Step.end e; few = omega arith }, λ u. absurd (differ (sym u)))
+  at-end rest e = (λ u. ends-with Step.end e, λ u. absurd (differ (sym u)))
 
   -- a refusal, where the payload that may follow is no text
   at-stop : (m d : ℕ) (r : Read (List ℕ)) → stepAt s at false ≡ finished (Step.bad m d) at → ((p rest : List ℕ) → r ≡ got p rest → utf8 p ≡ true → ⊥) → Follows s at r
   at-stop m d r e h = go r h
     where
       here : Stops s at
-      here = record { codes = []; refusal = m; detail = d; steps = last-step s at (Step.bad m d) e; few = omega arith }
+      here = record { codes = []; refusal = m; detail = d; runs = ends-with (Step.bad m d) e }
 
       go : (r : Read (List ℕ)) → ((p rest : List ℕ) → r ≡ got p rest → utf8 p ≡ true → ⊥) → Follows s at r
       go (Read.got p rest) h = (λ u. absurd (h p rest refl u), λ u. here)
@@ -87,20 +90,14 @@ module _ (s : List ℕ) (at : ℕ) where
   -- a character of the bytes bs, in front of what follows
   module _ (c next : ℕ) (bs : List ℕ) (e : stepAt s at false ≡ gave c next) (l : length (drop next s) < length (drop at s))
       (ut : (p : List ℕ) → utf8 (bs ++ p) ≡ utf8 p) (cs : (p : List ℕ) → codesOf (bs ++ p) ≡ c ∷ codesOf p) where
-    stop-on : Stops s next → Stops s at
-    stop-on h = record {
-      codes = c ∷ h .codes;
-      refusal = h .refusal;
-      detail = h .detail;
-      steps = char-step s at c next (h .codes) (Step.bad (h .refusal) (h .detail)) e (h .steps);
-      few = omega (arith, h .few);
-    }
+    run-on : (codes : List ℕ) (last : Step) → Runs s next codes last → Runs s at (c ∷ codes) last
+    run-on codes last h = record { steps = char-step s at c next codes last e (h .steps); few = omega (arith, h .few) }
 
-    read-on : (p : List ℕ) → Reads s next p → Reads s at (bs ++ p)
-    read-on p g = record { steps = λ n. rw (cs p) (char-step s at c next (codesOf p) Step.end e (g .steps) n); few = rw (cs p) (omega (arith, g .few)) }
+    stop-on : Stops s next → Stops s at
+    stop-on h = record { codes = c ∷ h .codes; refusal = h .refusal; detail = h .detail; runs = run-on (h .codes) (Step.bad (h .refusal) (h .detail)) (h .runs) }
 
     at-char : (m : Read (List ℕ)) → Follows s next m → Follows s at (consAll bs m)
-    at-char (Read.got p rest) h = rw (all-got bs p rest) (λ u. read-on p (h .0 (sym (ut p) ∙ u)), λ u. stop-on (h .1 (sym (ut p) ∙ u)))
+    at-char (Read.got p rest) h = rw (all-got bs p rest, cs p) (λ u. run-on (codesOf p) Step.end (h .0 (sym (ut p) ∙ u)), λ u. stop-on (h .1 (sym (ut p) ∙ u)))
     at-char (Read.bad n d) h = rw (all-bad bs n d) (stop-on h)
 
 -- ---- the code points of a character in front
@@ -235,8 +232,11 @@ module _ (s : List ℕ) where
     text : (p rest : List ℕ) → getStr bytes ≡ got p rest → getRun s ≡ got p rest → Spells bytes p → Outcome
     no-text : (n d : ℕ) → getStr bytes ≡ bad n d → n ≢ NoRoom → Breaks bytes → Outcome
 
+  shown-by : (codes : List ℕ) (last : Step) → Runs s 0 codes last → (n : ℕ) → Shown bytes n (stepsOf bytes n) codes last
+  shown-by codes last r n = record { given = r .steps n; few = omega (arith, r .few) }
+
   breaks : Stops s 0 → Breaks bytes
-  breaks r = record { codes = r .codes; refusal = r .refusal; detail = r .detail; steps = λ n. record { given = r .steps n; few = omega (arith, r .few) } }
+  breaks r = record { codes = r .codes; refusal = r .refusal; detail = r .detail; steps = shown-by (r .codes) (Step.bad (r .refusal) (r .detail)) (r .runs) }
 
   outcome : Outcome
   unfolding getStr
@@ -247,7 +247,7 @@ module _ (s : List ℕ) where
       go (Read.got p rest) e f = judged (utf8 p) refl
         where
           judged : (x : Bool) → utf8 p ≡ x → Outcome
-          judged true u = let r = f .0 u in text p rest (rw (e, u)) e (λ n. record { given = r .steps n; few = omega (arith, r .few) })
+          judged true u = text p rest (rw (e, u)) e (shown-by (codesOf p) Step.end (f .0 u))
           judged false u = no-text BadString 0 (rw (e, u)) (λ z. omega arith) (breaks (f .1 u))
 
   placed-by : (m : Read (List ℕ)) → getStr bytes ≡ m → (scratch : List ℕ) → getStrCall bytes scratch ≡ placedFrom 0 bytes scratch m
