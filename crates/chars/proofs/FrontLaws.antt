@@ -1,7 +1,7 @@
 -- A run beside its payload: up to the first zero they are the same bytes, and no character goes past a zero; so the character in front is the same in both.
 use mathlib.Core.Path.{_≡_, refl, sym, ap, _∙_}
 use mathlib.Core.Logic.{_⊎_, inl, inr}
-use mathlib.Core.Bool.{true, false}
+use mathlib.Core.Bool.{true, false, true≢false, false≢true}
 use mathlib.Core.List.{List, [], _∷_, _++_, append-assoc}
 use Prim.Native.Nat.{ℕ, zero, suc, _+_, _≤_}
 use native.Mathlib.Omega.{arith}
@@ -58,7 +58,7 @@ good-front b r p rest z e u =
     go : (s : List ℕ) → widthOf (firstChar (b ∷ s)) ≡ widthOf (firstChar (b ∷ r)) → utf8 (b ∷ s) ≡ true
         → (widthOf (firstChar (b ∷ r)) ≡ 0) ⊎ (widthOf (firstChar (b ∷ r)) ≡ leadWidth b) → widthOf (firstChar (b ∷ r)) ≡ leadWidth b
     go s f v (inr h) = h
-    go s f v (inl h) = let d : false ≡ true = sym (not-text b s (f ∙ h)) ∙ v in absurd (let y : _≡_ {A = ℕ} 0 1 = cc in omega arith)
+    go s f v (inl h) = absurd (false≢true (sym (not-text b s (f ∙ h)) ∙ v))
 
 -- bytes in front of what is read
 abbrev pub consAll : List ℕ → Read (List ℕ) → Read (List ℕ)
@@ -99,7 +99,7 @@ char-over b w r e = run-over w r before
 escaped-plain : (p : List ℕ) → hasZero p ≡ false → escaped p ≡ p ++ 0 ∷ []
 unfolding escaped hasZero
 escaped-plain [] h = refl
-escaped-plain (b ∷ p) h = by-test (eqb b 0) (λ z. let d : true ≡ false = rw z at h in absurd (let y : _≡_ {A = ℕ} 0 1 = cc in omega arith))
+escaped-plain (b ∷ p) h = by-test (eqb b 0) (λ z. absurd (true≢false (rw z at h)))
     (λ z. rw z (ap (λ (l : List ℕ). b ∷ l) (escaped-plain p (rw z at h))))
 
 pub plain-run : (s p rest : List ℕ) → getRun s ≡ got p rest → hasZero p ≡ false → (length p ≤ length s) × (take (length p) s ≡ p)

@@ -2,7 +2,7 @@
 -- is the end where the payload is, or refuses where the payload cannot be text.
 use mathlib.Core.Path.{_≡_, refl, sym, ap, _∙_, subst}
 use mathlib.Core.Logic.{_≢_}
-use mathlib.Core.Bool.{Bool, true, false}
+use mathlib.Core.Bool.{Bool, true, false, false≢true}
 use mathlib.Core.List.{List, [], _∷_, _++_}
 use Prim.Native.Nat.{ℕ, zero, suc, _+_, _-_, _≤_, _<_}
 use native.Mathlib.Omega.{arith}
@@ -25,9 +25,6 @@ use Rattle.text.proofs.Leads.{lead-some, lead-text}
 use Rattle.scalar.proofs.Escapes.{run-eof}
 use Rattle.chars.specs.Names.{stepsFrom, stepsOf, codesFrom, codesOf, giving, nameIn, Shown, Spells, Breaks, Named, Names}
 use Rattle.chars.proofs.FrontLaws.{good-front, consAll, all-got, all-bad, char-over, plain-run}
-
-differ : false ≡ true → ⊥
-differ z = let y : _≡_ {A = ℕ} 0 1 = cc in omega arith
 
 -- ---- steps, one after another
 
@@ -74,7 +71,7 @@ module _ (s : List ℕ) (at : ℕ) where
   -- the end
   at-end : (rest : List ℕ) → stepAt s at false ≡ finished Step.end at → Follows s at (got [] rest)
   unfolding codesFrom textFrom
-  at-end rest e = (λ u. ends-with Step.end e, λ u. absurd (differ (sym u)))
+  at-end rest e = (λ u. ends-with Step.end e, λ u. absurd (false≢true (sym u)))
 
   -- a refusal, where the payload that may follow is no text
   at-stop : (m d : ℕ) (r : Read (List ℕ)) → stepAt s at false ≡ finished (Step.bad m d) at → ((p rest : List ℕ) → r ≡ got p rest → utf8 p ≡ true → ⊥) → Follows s at r
@@ -161,7 +158,7 @@ module _ (s : List ℕ) (at : ℕ) (ih : (next : ℕ) → length (drop next s) <
 
     at-bad : leadWidth b ≤ length (b ∷ r) → utf8 (take (leadWidth b) (b ∷ r)) ≡ false → Follows s at (getRun (b ∷ r))
     at-bad h f = at-stop s at BadString 0 (getRun (b ∷ r)) (in-sequence ∙ rw (le-ltb (length (b ∷ r)) (leadWidth b) h, f))
-        (λ p rest g u. differ (sym f ∙ lead-text b r ∙ eq-eqb (widthOf (firstChar (b ∷ r))) (leadWidth b) (good-front b r p rest z g u)))
+        (λ p rest g u. false≢true (sym f ∙ lead-text b r ∙ eq-eqb (widthOf (firstChar (b ∷ r))) (leadWidth b) (good-front b r p rest z g u)))
 
     at-good : (k : ℕ) → leadWidth b ≡ suc k → suc k ≤ length (b ∷ r) → utf8 (take (leadWidth b) (b ∷ r)) ≡ true → Follows s at (getRun (b ∷ r))
     unfolding getRun
