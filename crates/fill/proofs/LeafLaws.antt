@@ -2,19 +2,19 @@
 use mathlib.Core.Path.{_≡_, refl, sym, ap, subst, _∙_}
 use mathlib.Core.Bool.{true, false}
 use mathlib.Core.List.{List, [], _∷_, _++_}
-use Prim.Native.Nat.{ℕ, _+_, _≤_}
+use Prim.Native.Nat.{ℕ, _+_, _≤_, _<_}
 use native.Mathlib.Omega.{arith}
 use lib.ListN.{length, drop, getD}
-use Rattle.format.specs.Tree.{Ty, Val, valKind, numberIn, runIn}
+use Rattle.format.specs.Tree.{Val, numberIn, runIn}
 use Rattle.format.specs.Sheet.{valWords, valPool}
 use Rattle.format.specs.Scalar.{intBytes, refBytes}
-use Rattle.format.specs.Encode.{valBytes, fits, fine}
+use Rattle.format.specs.Encode.{valBytes}
 use Rattle.format.specs.Read.{startsFF}
 use Rattle.format.specs.Fields.{put}
 use Rattle.format.proofs.Sound.{Sound}
 use Rattle.format.proofs.Tests.{eqb-yes, eqb-no}
 use Rattle.format.proofs.KindLaws.{built}
-use Rattle.format.proofs.FitLaws.{of-value, no-null}
+use Rattle.format.proofs.FitLaws.{of-value}
 use Rattle.format.proofs.MarkLaws.{markKind, int-kind}
 use Rattle.blocks.proofs.Put.{put-none}
 use Rattle.fill.proofs.PlaceLaws.{head-at, kind-at}
@@ -44,11 +44,6 @@ no-group m h = (λ q. shut (rw q at h), λ q. shut (rw q at h))
     shut : true ≡ false → ⊥
     shut e = let z : _≡_ {A = ℕ} 0 1 = cc in omega arith
 
--- what fits a type is no Null
-pub some-kind : (t : Ty) (depth : ℕ) (v : Val) → fits t depth v ≡ fine → valKind v ≡ 0 → ⊥
-unfolding built
-some-kind t depth v fit z = of-value (λ (u : Val). fits t depth u ≡ fine → ⊥) 0 v z (no-null t depth) fit
-
 -- the value v stands here
 abbrev This : (bytes : List ℕ) (s : Filled) (a : Lent) (r : Filled) (b : Lent) (depth : ℕ) → Val → Type 0
 This bytes s a r b depth v = (rest : List ℕ) → Sound v → startsFF rest ≡ false → drop (s .next) bytes ≡ valBytes depth v ++ rest → s .pool + length (valPool v) ≤ length (a .pool)
@@ -57,25 +52,24 @@ This bytes s a r b depth v = (rest : List ℕ) → Sound v → startsFF rest ≡
 module _ {bytes : List ℕ} {s : Filled} {a : Lent} {n : ℕ} {b : Lent} where
   -- the kind k, and what it takes of the pool
   by-kind : (k : ℕ) {x : ℕ} → x ≡ taken (getD bytes (s .next) 0) (getD (b .words) (s .words + 1) 0) → Onward bytes (s .next + 1) a (standing n (s .words + 2) (s .pool + x) 0) b
-      → ((t : Ty) (depth : ℕ) (v : Val) → fits t depth v ≡ fine → valKind v ≡ markKind (getD bytes (s .next) 0) → valKind v ≡ k)
-      → ((depth : ℕ) (v : Val) → This bytes s a (standing n (s .words + 2) (s .pool + x) 0) b depth (built k v)) → LeafFilled bytes s a n b
+      → markKind (getD bytes (s .next) 0) ≡ k → ((depth : ℕ) (v : Val) → This bytes s a (standing n (s .words + 2) (s .pool + x) 0) b depth (built k v)) → LeafFilled bytes s a n b
   by-kind k {x} e o is f =
       record {
         onward = subst (λ (y : ℕ). Onward bytes (s .next + 1) a (standing n (s .words + 2) (s .pool + y) 0) b) e o;
         says = λ depth. subst (λ (y : ℕ). One bytes s depth a (standing n (s .words + 2) (s .pool + y) 0) b) e
             (record {
               one = λ t v rest fit so st d lw lp.
-                  of-value (This bytes s a (standing n (s .words + 2) (s .pool + x) 0) b depth) k v (is t depth v fit (kind-at bytes (s .next) depth v rest so d)) (f depth v) rest so st d lp;
+                  of-value (This bytes s a (standing n (s .words + 2) (s .pool + x) 0) b depth) k v (kind-at bytes (s .next) depth v rest so d ∙ is) (f depth v) rest so st d lp;
             });
       }
 
   pub a-str : getD bytes (s .next) 0 ≡ 0x21 → RunFilled 2 bytes s a n b → LeafFilled bytes s a n b
   unfolding built valBytes valWords valPool markKind
-  a-str m f = by-kind 2 (taken-str _ _ m) (f .onward) (λ t depth v fit e. e ∙ ap markKind m) (λ depth v rest so st e lp. f .right (runIn v) rest st (head-at bytes (s .next) e .2) lp)
+  a-str m f = by-kind 2 (taken-str _ _ m) (f .onward) (ap markKind m) (λ depth v rest so st e lp. f .right (runIn v) rest st (head-at bytes (s .next) e .2) lp)
 
   pub a-bytes : getD bytes (s .next) 0 ≡ 0x53 → RunFilled 3 bytes s a n b → LeafFilled bytes s a n b
   unfolding built valBytes valWords valPool markKind
-  a-bytes m f = by-kind 3 (taken-bytes _ _ m) (f .onward) (λ t depth v fit e. e ∙ ap markKind m) (λ depth v rest so st e lp. f .right (runIn v) rest st (head-at bytes (s .next) e .2) lp)
+  a-bytes m f = by-kind 3 (taken-bytes _ _ m) (f .onward) (ap markKind m) (λ depth v rest so st e lp. f .right (runIn v) rest st (head-at bytes (s .next) e .2) lp)
 
 -- ---- numbers, which leave the pool as it is
 
@@ -91,14 +85,14 @@ module _ (bytes : List ℕ) (s : Filled) (a : Lent) (n : ℕ) (wout : List ℕ) 
 module _ {bytes : List ℕ} {s : Filled} {a : Lent} {n : ℕ} {wout : List ℕ} (room : s .words + 2 ≤ length (a .words)) (pl : s .pool ≤ length (a .pool)) where
   pub a-ref : getD bytes (s .next) 0 ≡ 0x51 → NumberFilled refBytes 4 bytes (s .next) (a .words) (s .words) n wout → LeafFilled bytes s a n (lent wout (a .pool))
   unfolding built valBytes valWords valPool markKind
-  a-ref m f = by-kind 4 (taken-none _ _ (λ q. omega arith) (λ q. omega arith)) (number-onward bytes s a n wout room pl f) (λ t depth v fit e. e ∙ ap markKind m)
+  a-ref m f = by-kind 4 (taken-none _ _ (λ q. omega arith) (λ q. omega arith)) (number-onward bytes s a n wout room pl f) (ap markKind m)
       (λ depth v rest so st e lp. number-done bytes s a n wout 4 (numberIn v) rest (f .right (numberIn v) rest so e))
 
-  pub an-int : (getD bytes (s .next) 0 ≡ 0x21 → ⊥) → (getD bytes (s .next) 0 ≡ 0x53 → ⊥) → (getD bytes (s .next) 0 ≡ 0x51 → ⊥) → opens (getD bytes (s .next) 0) ≡ false
+  pub an-int : (getD bytes (s .next) 0 ≡ 0x21 → ⊥) → (getD bytes (s .next) 0 ≡ 0x53 → ⊥) → (getD bytes (s .next) 0 ≡ 0x51 → ⊥) → 0 < getD bytes (s .next) 0 → opens (getD bytes (s .next) 0) ≡ false
       → NumberFilled intBytes 1 bytes (s .next) (a .words) (s .words) n wout → LeafFilled bytes s a n (lent wout (a .pool))
   unfolding built valBytes valWords valPool markKind
-  an-int x y z h f = by-kind 1 (taken-none _ _ x y) (number-onward bytes s a n wout room pl f)
-      (λ t depth v fit e.
+  an-int x y z l h f =
       let shut = no-group (getD bytes (s .next) 0) h in
-      e ∙ int-kind _ (record { no-str = x; no-bytes = y; no-ref = z; no-record = shut .0; no-union = shut .1; no-null = λ q. some-kind t depth v fit (e ∙ ap markKind q) }))
+      by-kind 1 (taken-none _ _ x y) (number-onward bytes s a n wout room pl f)
+      (int-kind _ (record { no-str = x; no-bytes = y; no-ref = z; no-record = shut .0; no-union = shut .1; no-null = λ q. omega arith }))
       (λ depth v rest so st e lp. number-done bytes s a n wout 1 (numberIn v) rest (f .right (numberIn v) rest so e))

@@ -1,16 +1,20 @@
 -- What stands at a place of a key, by its first byte, and words put before others.
 use mathlib.Core.Path.{_≡_, sym, ap, _∙_}
+use mathlib.Core.Bool.{Bool, true, false}
 use mathlib.Core.List.{List, [], _∷_, _++_, append-assoc}
 use Prim.Native.Nat.{ℕ, _+_, _≤_, _<_}
 use native.Mathlib.Nat.{add-assoc}
 use native.Mathlib.Omega.{arith}
+use lib.Dec.{ltb}
 use lib.ListN.{length, set, take, drop, getD, length-append, length-drop, length-set}
 use lib.Seq.{getD-append-add, length-take-le, take-append-le, take-take, drop-at}
+use Rattle.format.specs.Answer.{if}
 use Rattle.format.specs.Tree.{Val, valKind}
 use Rattle.format.specs.Encode.{valBytes}
 use Rattle.format.specs.Fields.{put}
 use Rattle.format.proofs.SheetPlaces.{front}
 use Rattle.format.proofs.Sound.{Sound}
+use Rattle.format.proofs.KindLaws.{is-null}
 use Rattle.format.proofs.MarkLaws.{markKind, first}
 use Rattle.blocks.proofs.Put.{set-put, set-put-cons}
 
@@ -27,6 +31,15 @@ kind-at bs i depth v rest s e =
     let f = first depth v s in
     let h = head-at bs i (e ∙ ap (λ (l : List ℕ). l ++ rest) (f .bytes)) in
     f .kind-is ∙ ap markKind (sym (h .1))
+
+-- and a blank's is 00
+pub null-at : (bs : List ℕ) (i depth : ℕ) (v : Val) (rest : List ℕ) → drop i bs ≡ valBytes depth v ++ rest → valKind v ≡ 0 → getD bs i 0 ≡ 0
+unfolding valBytes
+null-at bs i depth v rest e z = go (ltb 0 depth) (rw (is-null v z) at e)
+  where
+    go : (b : Bool) → drop i bs ≡ if b (0 ∷ 0xFF ∷ []) (0 ∷ []) ++ rest → getD bs i 0 ≡ 0
+    go true h = head-at bs i h .1
+    go false h = head-at bs i h .1
 
 -- ---- puts
 

@@ -1,5 +1,6 @@
 -- Laws of the walk over fields and groups: one for each way out of it.
 use mathlib.Core.Path.{_≡_, refl, sym, ap, _∙_}
+use mathlib.Core.Logic.{_≢_}
 use mathlib.Core.Bool.{Bool, true, false, not}
 use mathlib.Core.List.{List, [], _∷_, _++_, append-assoc, append-nil}
 use Prim.Native.Nat.{ℕ, _+_, _-_, _≤_, _<_}
@@ -7,26 +8,26 @@ use native.Mathlib.Nat.{add-zero}
 use native.Mathlib.Omega.{arith}
 use lib.Dec.{ltb}
 use lib.ListN.{length, drop, getD, length-append, length-drop}
+use lib.Seq.{drop-at, drop-drop}
 use borrow.Author.Tests.{lt-ltb, eqb-true, ne-eqb}
 use Rattle.format.specs.Answer.{if, Answer, andThen}
-use Rattle.format.specs.Tree.{Ty, Tys, Val, Vals, numberIn, fieldsIn, payloadIn}
+use Rattle.format.specs.Tree.{Ty, Tys, Val, Vals, valKind, numberIn, fieldsIn, payloadIn}
 use Rattle.format.specs.Sheet.{valCount, valWords, valsWords, valPool, valsPool}
 use Rattle.format.specs.Scalar.{uintBytes}
-use Rattle.format.specs.Encode.{valBytes, valsBytes, fits, fitsAll, fine}
+use Rattle.format.specs.Encode.{nullBytes, valBytes, valsBytes, fits, fitsAll, fine}
 use Rattle.format.specs.Fields.{put}
 use Rattle.format.specs.Read.{startsFF, endsHere}
 use Rattle.format.proofs.Sound.{Sound, AllSound}
-use Rattle.format.proofs.SheetPlaces.{all-words}
-use Rattle.format.proofs.ValuePlaces.{word-is}
+use Rattle.format.proofs.SheetPlaces.{front, all-words}
+use Rattle.format.proofs.ValuePlaces.{ValueIn, kind-is, word-is}
 use Rattle.format.proofs.Tests.{Test, holds, fails, eqb-test, eqb-no}
-use Rattle.format.proofs.KindLaws.{built}
+use Rattle.format.proofs.KindLaws.{built, is-null, not-zero}
 use Rattle.format.proofs.FitLaws.{of-value, clash, fields-fit, payload-fits, both-fit}
 use Rattle.format.proofs.MarkLaws.{markKind}
 use Rattle.format.proofs.OrderLaws.{marked}
-use Rattle.format.proofs.RoundLaws.{not-null, starts-vals, ends}
+use Rattle.format.proofs.RoundLaws.{starts-vals, ends}
 use Rattle.blocks.proofs.Put.{put-none, length-put, put-then}
-use Rattle.fill.proofs.PlaceLaws.{head-at, kind-at, put-before}
-use Rattle.fill.proofs.LeafLaws.{some-kind}
+use Rattle.fill.proofs.PlaceLaws.{head-at, kind-at, null-at, put-before}
 use Rattle.fill.specs.declared.Filled.{Filled}
 use Rattle.fill.specs.Fill.{Lent, lent, standing, opens, fieldsEnd, Behind, Ready, Onward, NumberFilled, Done, One, Row, GroupFilled, LeafFilled, FieldsFilled, behindLeaf}
 
@@ -58,16 +59,15 @@ goes-on bytes j depth h = omega (arith, length-drop j bytes, some (drop j bytes)
     some [] e = let z : _≡_ {A = ℕ} 0 1 = cc in absurd (omega arith)
     some (b ∷ bs) e = omega arith
 
--- a value that fits a type does not begin with an end
-begins : (t : Ty) (depth : ℕ) (v : Val) (rest : List ℕ) → fits t depth v ≡ fine → Sound v → fieldsEnd depth (valBytes depth v ++ rest) ≡ false
-unfolding fieldsEnd endsHere
-begins t depth v rest fit so =
-    let m = marked depth v so in
-    rw (m .bytes, eqb-no (m .mark) 0 (omega (arith, m .least, not-null t depth v fit))) (go (ltb 0 depth))
+-- a value does not begin with an end, a blank neither
+begins : (depth : ℕ) (v : Val) (rest : List ℕ) → Sound v → fieldsEnd depth (valBytes depth v ++ rest) ≡ false
+unfolding fieldsEnd endsHere startsFF valBytes
+begins depth v rest so = go (ltb 0 depth) (eqb-test (valKind v) 0) refl
   where
-    go : (b : Bool) → if b false false ≡ false
-    go true = refl
-    go false = refl
+    go : (b : Bool) {c : Bool} → Test (valKind v ≡ 0) (valKind v ≢ 0) c → ltb 0 depth ≡ b → fieldsEnd depth (valBytes depth v ++ rest) ≡ false
+    go false t e = rw (marked depth v so .bytes, e)
+    go true (holds p) e = rw (is-null v p, e) (rw e)
+    go true (fails p) e = let m = marked depth v so in rw (m .bytes, e, eqb-no (m .mark) 0 (omega (arith, m .least, not-zero v p)))
 
 -- what begins with an end does not begin with FF
 end-starts : (depth : ℕ) (rest : List ℕ) → fieldsEnd depth rest ≡ true → startsFF rest ≡ false
@@ -85,10 +85,11 @@ group-end : (depth : ℕ) (rest : List ℕ) → startsFF rest ≡ false → fiel
 unfolding fieldsEnd
 group-end depth rest f = rw (lt-ltb 0 (depth + 1) (omega arith)) (ends rest f)
 
--- a value that fits a type has two words at least
-two-words : (t : Ty) (depth : ℕ) (v : Val) → fits t depth v ≡ fine → 2 ≤ length (valWords v)
-two-words t depth v fit =
-    omega (arith, word-is (valWords v) (valPool v) 0 0 _ _ v (record { words = all-words _ _ refl; pool = all-words _ _ refl }) (some-kind t depth v fit) .0)
+-- a value has one word at least, and two where it is no blank
+few-words : (v : Val) → (1 ≤ length (valWords v)) × ((valKind v ≡ 0 → ⊥) → 2 ≤ length (valWords v))
+few-words v =
+    let i : ValueIn (valWords v) (valPool v) 0 0 v (length (valWords v)) (length (valPool v)) = record { words = all-words _ _ refl; pool = all-words _ _ refl } in
+    (omega (arith, kind-is (valWords v) (valPool v) 0 0 _ _ v i .0), λ z. omega (arith, word-is (valWords v) (valPool v) 0 0 _ _ v i z .0))
 
 -- ---- fields one after another
 
@@ -109,8 +110,7 @@ row-none {bytes} {s} {depth} {a} h = record { row = go }
     )
     go Tys.NoTy (Vals.AddVal v vs) rest fit so en e lw lp = clash fit
     go (Tys.AddTy t ts) (Vals.AddVal v vs) rest fit so en e lw lp =
-        let q = both-fit (fits t depth v) (fitsAll ts depth vs) fit in
-        let b = begins t depth v (valsBytes depth vs ++ rest) (q .0) (so .0) in
+        let b = begins depth v (valsBytes depth vs ++ rest) (so .0) in
         let z : _≡_ {A = ℕ} 0 1 = cc (append-assoc (valBytes depth v) (valsBytes depth vs) rest) in
         absurd (omega arith)
 
@@ -125,11 +125,14 @@ module _ {bytes : List ℕ} {s : Filled} {depth : ℕ} {a : Lent} {r : Filled} {
       go Tys.NoTy (Vals.AddVal v vs) rest fit so en e lw lp = clash fit
       go (Tys.AddTy t ts) (Vals.AddVal v vs) rest fit so en e lw lp = f t ts v vs rest fit so en e lw lp
 
-  -- and has no room
-  pub row-short : length (a .words) - s .words < 2 → Row bytes s depth a r b
-  unfolding fits valsWords
-  row-short l = row-some (λ t ts v vs rest fit so en e lw lp.
-      absurd (omega (arith, two-words t depth v (both-fit (fits t depth v) (fitsAll ts depth vs) fit .0), length-append (valWords v) (valsWords vs))))
+  -- and has no room: none at all where it is a blank
+  pub row-short : length (a .words) - s .words < 2 → (getD bytes (s .next) 0 ≡ 0 → length (a .words) ≤ s .words) → Row bytes s depth a r b
+  unfolding valsBytes valsWords
+  row-short l n = row-some (λ t ts v vs rest fit so en e lw lp.
+      let k = few-words v in
+      let long = length-append (valWords v) (valsWords vs) in
+      let d = e ∙ append-assoc (valBytes depth v) (valsBytes depth vs) rest in
+      absurd (omega (arith, k .1 (λ z. omega (arith, k .0, n (null-at bytes (s .next) depth v (valsBytes depth vs ++ rest) d z))))))
 
   -- or is filled, with those behind it
   pub row-more : {m : Filled} {d : Lent} → GroupFilled bytes (standing (s .next) (s .words) (s .pool) 0) depth a m d → Row bytes (standing (m .next) (m .words) (m .pool) (s .count + 1)) depth d r b → Row bytes s depth a r b
@@ -198,10 +201,10 @@ module _ {bytes : List ℕ} {s₀ : Filled} {depth : ℕ} {a₀ : Lent} where
     pub passing-end : true ≡ fieldsEnd depth (drop (s .next) bytes) → FieldsFilled bytes s₀ depth a₀ s a
     passing-end h = record { onward = i .onward; says = i .so-far s a (row-none h) }
 
-    pub passing-short : false ≡ fieldsEnd depth (drop (s .next) bytes) → length (a .words) - s .words < 2 → FieldsFilled bytes s₀ depth a₀ s a
-    passing-short h l = record { onward = i .onward; says = i .so-far s a (row-short h l) }
+    pub passing-short : false ≡ fieldsEnd depth (drop (s .next) bytes) → length (a .words) - s .words < 2 → (getD bytes (s .next) 0 ≡ 0 → length (a .words) ≤ s .words) → FieldsFilled bytes s₀ depth a₀ s a
+    passing-short h l n = record { onward = i .onward; says = i .so-far s a (row-short h l n) }
 
--- ---- groups
+-- ---- blanks and groups
 
 -- the value v stands here
 abbrev This : (bytes : List ℕ) (s : Filled) (depth : ℕ) (a : Lent) (r : Filled) (b : Lent) → Val → Type 0
@@ -211,6 +214,46 @@ This bytes s depth a r b v = (t : Ty) (rest : List ℕ) → fits t depth v ≡ f
 by-kind : {bytes : List ℕ} {s : Filled} {depth : ℕ} {a : Lent} {r : Filled} {b : Lent} (k : ℕ) → markKind (getD bytes (s .next) 0) ≡ k → ((v : Val) → This bytes s depth a r b (built k v)) → One bytes s depth a r b
 by-kind {bytes} {s} {depth} {a} {r} {b} k e f =
     record { one = λ t v rest fit so st d lw lp. of-value (This bytes s depth a r b) k v (kind-at bytes (s .next) depth v rest so d ∙ e) (f v) t rest fit so st d lw lp }
+
+-- a blank's bytes lie within the key, for the fields do not end here
+pub null-long : (bytes : List ℕ) (j depth : ℕ) → false ≡ fieldsEnd depth (drop j bytes) → getD bytes j 0 ≡ 0 → (0 < length (nullBytes depth)) × (j + length (nullBytes depth) ≤ length bytes)
+unfolding fieldsEnd endsHere startsFF
+null-long bytes j depth h m =
+    let on = goes-on bytes j depth h in
+    let k = go (ltb 0 depth) (drop (j + 1) bytes) (h ∙ ap (fieldsEnd depth) (front bytes j on) ∙ ap (λ (b : ℕ). fieldsEnd depth (b ∷ drop (j + 1) bytes)) m) in
+    (k .0, omega (arith, k .1, length-drop (j + 1) bytes))
+  where
+    go : (b : Bool) (l : List ℕ) → false ≡ if b (not (startsFF l)) false → (0 < length {A = ℕ} (if b (0 ∷ 0xFF ∷ []) (0 ∷ []))) × (length {A = ℕ} (if b (0 ∷ 0xFF ∷ []) (0 ∷ [])) ≤ 1 + length l)
+    go true [] e = let z : _≡_ {A = ℕ} 0 1 = cc in absurd (omega arith)
+    go true (c ∷ l) e = (omega arith, omega arith)
+    go false l e = (omega arith, omega arith)
+
+-- a blank: one word, and nothing of the pool
+pub null-filled : {bytes : List ℕ} {s : Filled} {depth : ℕ} {a : Lent} {n : ℕ} {wout : List ℕ} → false ≡ fieldsEnd depth (drop (s .next) bytes) → getD bytes (s .next) 0 ≡ 0 → s .words < length (a .words)
+    → s .pool ≤ length (a .pool) → (n ≡ length (nullBytes depth)) × (wout ≡ put (a .words) (s .words) (0 ∷ []))
+    → GroupFilled bytes s depth a (standing (s .next + n) (s .words + 1) (s .pool) 0) (lent wout (a .pool))
+unfolding built valBytes valWords valPool markKind
+null-filled {bytes} {s} {depth} {a} {n} h m room pl f =
+    let k = null-long bytes (s .next) depth h m in
+    record {
+      onward = record {
+        on = omega (arith, f .0, k .0);
+        inside = omega (arith, f .0, k .1);
+        word-in = omega arith;
+        pool-in = pl;
+        few = omega arith;
+        kept-words = ap length (f .1) ∙ length-put (a .words) (s .words) (0 ∷ []) (omega arith);
+        kept-pool = refl;
+      };
+      says = by-kind 0 (ap markKind m) (λ v t rest fit so st e lw lp.
+          record {
+            left = sym (drop-drop n (s .next) bytes) ∙ ap (drop n) e ∙ drop-at (nullBytes depth) rest n (sym (f .0));
+            at-words = refl;
+            at-pool = sym (add-zero (s .pool));
+            written = f .1;
+            pooled = sym (put-none (a .pool) (s .pool));
+          });
+    }
 
 -- a group's mark is a record's or a union's
 pub union-mark : (m : ℕ) → opens m ≡ true → (m ≡ 0x22 → ⊥) → m ≡ 0x52

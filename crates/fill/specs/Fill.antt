@@ -124,7 +124,7 @@ pub record GroupFilled (bytes : List ℕ) (s : Filled) (depth : ℕ) (a : Lent) 
   pub onward : Onward bytes (s .next + 1) a r b
   pub says : One bytes s depth a r b
 
--- a value that is no group has the same bytes at every depth
+-- a value that is no group and no blank has the same bytes at every depth
 pub record LeafFilled (bytes : List ℕ) (s : Filled) (a : Lent) (r : ℕ) (b : Lent) : Type 0 where
   pub onward : Onward bytes (s .next + 1) a (behindLeaf bytes s r (b .words)) b
   pub says : (depth : ℕ) → One bytes s depth a (behindLeaf bytes s r (b .words)) b

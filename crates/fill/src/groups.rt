@@ -1,6 +1,7 @@
 // Fields one after another, and the groups among them. The calls nest as the groups do.
 use crate::Filled;
 use crate::leaves::fill_leaf;
+use crate::leaves::fill_null;
 use crate::leaves::fill_uint;
 use crate::leaves::pool_taken;
 use crate::leaves::put_pair;
@@ -89,7 +90,7 @@ fn fill_group(
     }
 }
 
-// The fields that stand at a depth, up to their end, with their count. A union's payload is one field.
+// The fields that stand at a depth, up to their end, with their count. A union's payload is one field. A 00 that is no end is a blank.
 fn fill_fields(
     bytes: &[u8],
     i: usize,
@@ -108,10 +109,15 @@ fn fill_fields(
     let mut n: u64 = 0;
     while !fields_end(bytes, j, depth) {
         let mark = bytes[j];
-        if words.len() - w1 < 2 {
+        if mark == format::MARK_NULL {
+            if words.len() <= w1 {
+                break;
+            }
+            j += fill_null(words, w1, depth);
+            w1 += 1;
+        } else if words.len() - w1 < 2 {
             break;
-        }
-        if opens_group(mark) {
+        } else if opens_group(mark) {
             let g = fill_group(bytes, j, words, w1, pool, p1, depth);
             j = g.next;
             w1 = g.words;

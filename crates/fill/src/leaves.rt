@@ -6,6 +6,7 @@ ghost use mathlib.Core.List.{[], _∷_};
 ghost use Prim.Native.Nat.{_+_, _≤_, _<_};
 ghost use lib.ListN.{length, getD, take, drop};
 ghost use Rattle.format.specs.Scalar.{intBytes, uintBytes, refBytes};
+ghost use Rattle.format.specs.Encode.{nullBytes};
 ghost use Rattle.format.specs.Read.{number};
 ghost use Rattle.format.specs.Fields.{put};
 ghost use Rattle.fill.specs.Fill.{lent, standing, opens, Width, NumberFilled, RunFilled, LeafFilled, taken};
@@ -17,6 +18,18 @@ pub fn put_pair(words: &mut [u64], w: usize, kind: u64, x: u64)
 {
     words[w] = kind;
     words[w + 1] = x;
+}
+
+// A blank: one word, and nothing of the pool. It gives the length of a null, which has its escape inside a group.
+pub fn fill_null(words: &mut [u64], w: usize, depth: usize) -> usize
+    requires { ⌜ w < length (now words) ⌝ }
+    ensures { λ r. ⌜ (r ≡ length (nullBytes depth)) × (now (words .exit) ≡ put (now (words .entry)) w (0 ∷ [])) ⌝ }
+{
+    words[w] = format::VALUE_NULL;
+    if depth == 0 {
+        return 1;
+    }
+    2
 }
 
 // How many bytes stand behind the mark of an unsigned integer.
@@ -141,7 +154,7 @@ fn fill_run(
     }
 }
 
-// A value that is no group.
+// A value that is no group and no blank.
 pub fn fill_leaf(
     bytes: &[u8],
     i: usize,
@@ -150,7 +163,7 @@ pub fn fill_leaf(
     pool: &mut [u8],
     p: usize,
 ) -> usize
-    requires { ⌜ (i < length (now bytes)) × (w + 2 ≤ length (now words)) × (p ≤ length (now pool)) × (opens (getD (now bytes) i 0) ≡ false) ⌝ }
+    requires { ⌜ (i < length (now bytes)) × (w + 2 ≤ length (now words)) × (p ≤ length (now pool)) × (0 < getD (now bytes) i 0) × (opens (getD (now bytes) i 0) ≡ false) ⌝ }
     ensures { λ r. ⌜ LeafFilled (now (bytes .entry)) (standing i w p 0) (lent (now (words .entry)) (now (pool .entry))) r (lent (now (words .exit)) (now (pool .exit))) ⌝ }
 {
     let mark = bytes[i];

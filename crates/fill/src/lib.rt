@@ -1,5 +1,5 @@
 // The value sheet of a key that is known to decode, by the key's marks alone: a value's type has no part in its bytes.
-// Fields end at the end of the key, and inside a group where the group does.
+// Fields end at the end of the key, and inside a group where the group does. A blank is one word; every other value has two at least.
 mod groups;
 mod leaves;
 

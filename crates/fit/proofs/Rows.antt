@@ -90,7 +90,7 @@ none-left {ty} {words} {pool} {depth} {asked} {ts} {vs} {e} {f} {g} {t} {w} {p} 
     go : (ts′ : Tys) (vs′ : Vals) → (asked ≡ true → types.TypesIn ty t ts′ e) → values.ValuesIn words pool w p vs′ f g → fieldCount ts′ ≡ left → valCount vs′ ≡ left
         → fitsAll ts depth vs ≡ fitsAll ts′ depth vs′ → length (valsBytes depth vs) ≡ sum + length (valsBytes depth vs′)
         → (fitsAll ts depth vs ≡ fine) × (asked ≡ true → t ≡ e) × (w ≡ f) × (p ≡ g) × (sum ≡ length (valsBytes depth vs))
-    go Tys.NoTy Vals.NoVal a b i j k l = (k, λ q. omega (arith, a q .long), omega (arith, b .words .long), omega (arith, b .pool .long), omega arith)
+    go Tys.NoTy Vals.NoVal a b i j k l = (k, λ q. omega (arith, a q .span .long), omega (arith, b .words .long), omega (arith, b .pool .long), omega arith)
     go Tys.NoTy (Vals.AddVal v vs′) a b i j k l = absurd (omega arith)
     go (Tys.AddTy T ts′) vs′ a b i j k l = absurd (omega arith)
 

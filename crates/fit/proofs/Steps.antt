@@ -34,7 +34,7 @@ use Rattle.fit.specs.Fit.{Pair, Standing, StandingRow, leafIn, refIn, lo
 -- ---- the words at the places
 
 module _ {ty words pool : List ℕ} {t w p : ℕ} {T : Ty} {v : Val} {e f g : ℕ} (s : Pair ty words pool t w p T v e f g) where
-  value-kind : getD words w 0 ≡ valKind v
+  pub value-kind : getD words w 0 ≡ valKind v
   value-kind = values.kind-is words pool w p f g v (s .value) .1
 
   type-kind : getD ty t 0 ≡ types.tyKind T
@@ -71,17 +71,21 @@ module _ {ty words pool : List ℕ} {t w p : ℕ} (s : Standing ty words pool t 
   pub type-in : t < length ty
   type-in = type.kind-here (s .T) (s .here .type) .0
 
+  -- no word 7
+  pub plain-kind : (getD ty t 0 ≡ 7 → ⊥) → getD ty t 0 < 7
+  plain-kind n = omega (arith, n, type.kind-here (s .T) (s .here .type) .2)
+
   pub word-in : w < length words
   word-in = values.kind-is words pool w p (s .f) (s .g) (s .v) (s .here .value) .0
 
   -- a reference, a record and a union have a second word
-  pub type-second : 4 ≤ getD ty t 0 → t + 1 < length ty
-  type-second h = go (eqb-test (getD ty t 0) 4) (eqb-test (getD ty t 0) 5)
+  pub type-second : 4 ≤ getD ty t 0 → getD ty t 0 < 7 → t + 1 < length ty
+  type-second h plain = go (eqb-test (getD ty t 0) 4) (eqb-test (getD ty t 0) 5)
     where
       go : {a b : Bool} → Test (getD ty t 0 ≡ 4) (getD ty t 0 ≢ 4) a → Test (getD ty t 0 ≡ 5) (getD ty t 0 ≢ 5) b → t + 1 < length ty
       go (holds q) c = type.ref-here (s .T) (s .here .type) q .second
       go (fails n) (holds q) = type.record-here (s .T) (s .here .type) q .second
-      go (fails n) (fails m) = type.union-here (s .T) (s .here .type) (omega (arith, type.kind-here (s .T) (s .here .type) .2)) .second
+      go (fails n) (fails m) = type.union-here (s .T) (s .here .type) (omega arith) .second
 
   module _ (same : getD words w 0 ≡ getD ty t 0) where
     pub word-second : w + 1 < length words
@@ -110,12 +114,12 @@ module _ {ty words pool : List ℕ} {t w p : ℕ} (s : Standing ty words pool t 
 -- ---- a value of another kind, and leaves
 
 module _ {ty words pool : List ℕ} {t w p depth : ℕ} {asked : Bool} where
-  pub differ : (getD words w 0 ≡ getD ty t 0 → ⊥) → FitValue ty words pool t w p depth asked (Refused TypeMismatch (getD ty t 0))
-  differ h =
+  pub differ : getD ty t 0 < 7 → (getD words w 0 ≡ getD ty t 0 → ⊥) → FitValue ty words pool t w p depth asked (Refused TypeMismatch (getD ty t 0))
+  differ plain h =
       record {
         brief = tt;
         says = λ T v e f g s.
-            let q = mismatch T depth v (λ z. h (value-kind s ∙ z ∙ sym (type-kind s))) in
+            let q = mismatch T depth v (type.plain-here T (s .type) (λ z. omega arith)) (λ z. h (value-kind s ∙ z ∙ sym (type-kind s))) in
             record { answer = ap (refused TypeMismatch) (type-kind s) ∙ sym q; ends = tt };
       }
 
@@ -226,11 +230,10 @@ record UnionPair (ty words pool : List ℕ) (t w p depth : ℕ) (T : Ty) (v : Va
   is : fits T depth v ≡ chosen (choose (getD words (w + 1) 0) us) (λ C. inUnion (getD words (w + 1) 0) (groupAt depth (fits C (depth + 1) inner))) (refused UnknownDiscriminant (getD words (w + 1) 0))
   long : length (valBytes depth v) ≡ length (valBytes (depth + 1) inner) + (2 + length (uintBytes (getD words (w + 1) 0)))
 
-module _ {ty words pool : List ℕ} {t w p : ℕ} (same : getD words w 0 ≡ getD ty t 0) (up : 4 < getD ty t 0) (no-record : getD ty t 0 ≡ 5 → ⊥) where
+module _ {ty words pool : List ℕ} {t w p : ℕ} (same : getD words w 0 ≡ getD ty t 0) (six : getD ty t 0 ≡ 6) where
   union-pair : (depth : ℕ) {T : Ty} {v : Val} {e f g : ℕ} → Pair ty words pool t w p T v e f g → UnionPair ty words pool t w p depth T v e f g
   unfolding fits valBytes
   union-pair depth {T} {v} {e} s =
-      let six : getD ty t 0 ≡ 6 = omega (arith, type.kind-here T (s .type) .2) in
       let a = type.union-here T (s .type) six in
       let b = value.union-here v (s .value) (same ∙ six) in
       let x = getD words (w + 1) 0 in

@@ -3,9 +3,10 @@ use mathlib.Core.Path.{_≡_}
 use mathlib.Core.Bool.{Bool, true}
 use mathlib.Core.List.{List}
 use Prim.Native.Nat.{ℕ, _+_, _*_, _≤_}
-use lib.ListN.{length}
+use lib.Dec.{eqb}
+use lib.ListN.{length, getD}
 use lib.Seq.{slice}
-use Rattle.format.specs.Answer.{Answer, ok, refused}
+use Rattle.format.specs.Answer.{if, Answer, ok, refused}
 use Rattle.format.specs.Tree.{Ty, Tys, Alts, Val, Vals}
 use Rattle.format.specs.Sheet.{fieldCount, altCount, valCount}
 use Rattle.format.specs.TypeSheet.{nesting, nestings, altNestings, maxGroups}
@@ -54,6 +55,10 @@ pub record StandingRow (ty words pool : List ℕ) (t w p n : ℕ) : Type 0 where
   pub here : Row ty words pool t w p n ts vs e f g
   pub few : length words ≤ maxValueWords
   pub small : length pool ≤ maxValueWords
+
+-- the place of a type itself: behind word 7, where that stands before it
+abbrev pub plainPlace : List ℕ → ℕ → ℕ
+plainPlace ty t = if (eqb (getD ty t 0) 7) (t + 1) t
 
 -- ---- answers
 

@@ -2,11 +2,11 @@
 use scalar::Judged;
 ghost use mathlib.Core.Path.{_≡_};
 ghost use Prim.Native.Nat.{_+_, _≤_, _<_, _^_};
-ghost use lib.ListN.{length};
+ghost use lib.ListN.{length, getD};
 ghost use Rattle.format.specs.ValueSheet.{maxValueWords};
-ghost use Rattle.format.specs.Encode.{fitsRef};
+ghost use Rattle.format.specs.Encode.{fitsRef, nullBytes};
 ghost use Rattle.format.proofs.PlainLaws.{plainPool};
-ghost use Rattle.fit.specs.Fit.{leafIn, refIn, longer, lenOf, Standing, StandingRow, Closed, FitValue, FitFields};
+ghost use Rattle.fit.specs.Fit.{plainPlace, leafIn, refIn, longer, lenOf, Standing, StandingRow, Closed, FitValue, FitFields};
 
 // It fits: the places behind it in type, words and pool, and the length of its encoding. Or a refusal and its detail.
 pub enum Fitted {
@@ -107,6 +107,56 @@ fn in_union(ty: &[u32], r: Fitted, tag: u64, left: u32, asked: bool) -> Fitted
     }
 }
 
+// A null's length: its mark, and inside a group an escape, so that it is no end.
+fn null_len(depth: u32) -> usize
+    ensures { λ r. ⌜ r ≡ length (nullBytes depth) ⌝ }
+{
+    if 0 < depth {
+        return 2;
+    }
+    1
+}
+
+// The place of a type itself: behind word 7, where that stands before it.
+fn plain_place(ty: &[u32], t: usize) -> usize
+    requires { ⌜ t < length (now ty) ⌝ }
+    ensures { λ r. ⌜ r ≡ plainPlace (now (ty .entry)) t ⌝ }
+{
+    if ty[t] == format::KIND_OPTIONAL {
+        return t + 1;
+    }
+    t
+}
+
+// A value of another kind than the type itself; every Null is one. Null fits an optional type, as a blank; all else is refused with the kind of the type itself, never 7.
+fn fit_other(
+    ty: &[u32],
+    words: &[u64],
+    pool: &[u8],
+    t: usize,
+    w: usize,
+    p: usize,
+    depth: u32,
+    asked: bool,
+) -> Fitted
+    requires { ⌜ Standing (now ty) (now words) (now pool) t w p × (getD (now words) w 0 ≡ getD (now ty) (plainPlace (now ty) t) 0 → ⊥) ⌝ }
+    ensures { λ r. ⌜ FitValue (now (ty .entry)) (now (words .entry)) (now (pool .entry)) t w p depth asked r ⌝ }
+{
+    if ty[t] != format::KIND_OPTIONAL {
+        return Fitted::Refused(format::TYPE_MISMATCH, format::wide_word(ty[t]));
+    }
+    if words[w] == format::VALUE_NULL {
+        let word = w + 1;
+        return Fitted::Fits {
+            at: sheet::skip_type(ty, t, asked),
+            word,
+            pool: p,
+            len: null_len(depth),
+        };
+    }
+    Fitted::Refused(format::TYPE_MISMATCH, format::wide_word(ty[t + 1]))
+}
+
 // The value at a place of the words under the type at a place of its sheet, its bytes from a place of the pool on. The end of the type is said where it is asked for.
 pub fn fit_value(
     ty: &[u32],
@@ -121,17 +171,18 @@ pub fn fit_value(
     requires { ⌜ Standing (now ty) (now words) (now pool) t w p ⌝ }
     ensures { λ r. ⌜ FitValue (now (ty .entry)) (now (words .entry)) (now (pool .entry)) t w p depth asked r ⌝ }
 {
-    let kind = ty[t];
+    let at = plain_place(ty, t);
+    let kind = ty[at];
     if words[w] != format::wide_word(kind) {
-        return Fitted::Refused(format::TYPE_MISMATCH, format::wide_word(kind));
+        return fit_other(ty, words, pool, t, w, p, depth, asked);
     }
     let x = words[w + 1];
     if kind < format::KIND_FACT {
-        return fit_leaf(pool, kind, x, t, w, p);
+        return fit_leaf(pool, kind, x, at, w, p);
     }
-    let n = ty[t + 1];
+    let n = ty[at + 1];
     if kind == format::KIND_FACT {
-        return fit_ref(n, x, t, w, p);
+        return fit_ref(n, x, at, w, p);
     }
     if kind == format::KIND_RECORD {
         if x != format::wide_word(n) {
@@ -140,9 +191,9 @@ pub fn fit_value(
         if format::MAX_RECORD_DEPTH <= depth {
             return Fitted::Refused(format::BAD_RECORD, 0);
         }
-        return in_record(fit_fields(ty, words, pool, t + 2, w + 2, p, n, depth + 1, asked));
+        return in_record(fit_fields(ty, words, pool, at + 2, w + 2, p, n, depth + 1, asked));
     }
-    let choice = sheet::alternative(ty, t, x);
+    let choice = sheet::alternative(ty, at, x);
     let place = choice.place;
     if place == 0 {
         return Fitted::Refused(format::UNKNOWN_DISCRIMINANT, x);

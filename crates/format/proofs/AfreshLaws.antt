@@ -17,7 +17,7 @@ use Rattle.format.specs.Encode.{valBytes, valsBytes, fits, fitsAll, fits
 use Rattle.format.proofs.Tests.{ltb-test, eqb-test, passed}
 use Rattle.format.proofs.KindLaws.{built}
 use Rattle.format.proofs.EncodeLaws.{no-answer, and-fine, of-kind}
-use Rattle.format.proofs.RoundLaws.{union-fine}
+use Rattle.format.proofs.RoundLaws.{union-fine, optional-fine}
 use Rattle.format.proofs.TypeLaws as types
 use Rattle.format.proofs.ValueLaws as values
 
@@ -50,6 +50,7 @@ mutual
   words-fit (Ty.Union alts) depth v f =
       let k = union-fine-at alts depth v f in
       rw (k .0) (omega (arith, union-words-fit alts depth (numberIn v) (payloadIn v) (k .1)))
+  words-fit (Ty.Optional t) depth v f = optional-fine t depth v f (λ p. rw p (omega arith)) (λ h g. omega (arith, words-fit t depth v g))
 
   pub all-words-fit : (ts : Tys) (depth : ℕ) (vs : Vals) → fitsAll ts depth vs ≡ fine → length (valsWords vs) ≤ 2 * length (tysWords ts)
   all-words-fit Tys.NoTy depth Vals.NoVal f = lit≤ tt
@@ -85,6 +86,7 @@ mutual
   nest-fit (Ty.Union alts) depth v l f =
       let k = union-fine-at alts depth v f in
       rw (k .0) (omega (arith, union-nest-fit alts depth (numberIn v) (payloadIn v) (k .1)))
+  nest-fit (Ty.Optional t) depth v l f = optional-fine t depth v f (λ p. rw p (omega arith)) (λ h g. nest-fit t depth v l g)
 
   pub all-nest-fit : (ts : Tys) (depth : ℕ) (vs : Vals) → depth ≤ maxDepth → fitsAll ts depth vs ≡ fine → nestings vs + depth ≤ maxDepth
   all-nest-fit Tys.NoTy depth Vals.NoVal l f = omega arith

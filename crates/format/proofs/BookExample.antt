@@ -7,7 +7,7 @@ use lib.Count.{leadingZeros}
 use Rattle.format.specs.Answer.{ok, refused}
 use Rattle.format.specs.Tree.{Ty, Tys, Val, Vals}
 use Rattle.format.specs.Sheet.{fieldCount, valCount}
-use Rattle.format.specs.TypeSheet.{oneType, types, typeAt, typeOf}
+use Rattle.format.specs.TypeSheet.{oneType, types, anyType, typeAt, typeOf}
 use Rattle.format.specs.ValueSheet.{oneValue, values, valueAt, valueOf}
 use Rattle.format.specs.Scalar.{width, be, uintBytes, negBytes, intBytes, escaped}
 use Rattle.format.specs.Encode.{encode, keyBytes, encodeKey, fits, valBytes}
@@ -34,7 +34,7 @@ book = record {
 }
 
 opens : encodeKeyCall ty (5 ∷ 2 ∷ 3 ∷ 1 ∷ 1 ∷ 7 ∷ []) (0x0A ∷ []) lent ≡ record { answer = ok 5; buffer = book .buffer }
-unfolding encodeKeyCall typeOf typeAt oneType types valueOf valueAt oneValue values encodeKey keyBytes fits valBytes fieldCount valCount intBytes uintBytes negBytes be width leadingZeros escaped
+unfolding encodeKeyCall typeOf typeAt anyType oneType types valueOf valueAt oneValue values encodeKey keyBytes fits valBytes fieldCount valCount intBytes uintBytes negBytes be width leadingZeros escaped
 opens = refl
 
 abbrev calls : List Call
@@ -62,7 +62,7 @@ seen =
     ∷ []
 
 by-calls : runCalls ty (book .buffer) 5 calls ≡ seen
-unfolding runCalls replaceCall typeOf typeAt oneType types valueOf valueAt oneValue values encodeKey keyBytes fits valBytes fieldCount valCount
+unfolding runCalls replaceCall typeOf typeAt anyType oneType types valueOf valueAt oneValue values encodeKey keyBytes fits valBytes fieldCount valCount
     intBytes uintBytes negBytes be width leadingZeros escaped decode decodeBare decodeKey whole getBytes getRun getInt getUint getBig widthIs number startsFF endsHere spliced setField fieldAt firsts
 by-calls = refl
 

@@ -6,19 +6,20 @@ use mathlib.Core.List.{List, [], _∷_, _++_, append-assoc}
 use Prim.Native.Nat.{ℕ, _+_, _^_, _<_}
 use native.Mathlib.Omega.{arith}
 use lib.Dec.{ltb, eqb}
-use Rattle.format.specs.Answer.{if, BadRecord}
-use Rattle.format.specs.Tree.{Ty, Tys, Alts, Val, Vals}
+use lib.ListN.{drop}
+use Rattle.format.specs.Answer.{if, BadRecord, UnexpectedTerminator}
+use Rattle.format.specs.Tree.{Ty, Tys, Alts, Val, Vals, valKind}
 use Rattle.format.specs.Sheet.{fieldCount, valCount}
 use Rattle.format.specs.Scalar.{uintBytes}
-use Rattle.format.specs.Encode.{valBytes, valsBytes, fits, fitsAll, fitsUnion, inUnion, maxDepth, fine}
-use Rattle.format.specs.Read.{Read, getUint, getInt, getStr, getBytes, getRef, startsFF, endsHere}
-use Rattle.format.specs.Decode.{Decoded, scalar, after, both, unionEnd, opened, withTag, decode, decodeGroup, decodeUnion}
+use Rattle.format.specs.Encode.{nullBytes, valBytes, valsBytes, fits, fitsAll, fitsUnion, inUnion, maxDepth, fine}
+use Rattle.format.specs.Read.{Read, getUint, getInt, getStr, getBytes, getRef, startsFF, endsHere, nullAt}
+use Rattle.format.specs.Decode.{Decoded, scalar, after, both, unionEnd, blankOr, opened, withTag, decode, decodeGroup, decodeUnion}
 use Rattle.format.proofs.Bytes.{AllBytes, bytes-behind}
 use Rattle.format.proofs.Begun.{begun, begunAll}
 use Rattle.format.proofs.Tests.{Test, holds, fails, ltb-test, eqb-test, bool-test, ltb-yes, eqb-yes, passed, failed}
 use Rattle.format.proofs.Sound.{Sound, AllSound}
 use Rattle.format.proofs.EncodeLaws.{fits-count}
-use Rattle.format.proofs.BackLaws.{uint-back, int-back, str-back, bytes-back, ref-back, run-bytes}
+use Rattle.format.proofs.BackLaws.{bad-got, uint-back, int-back, str-back, bytes-back, ref-back, run-bytes}
 
 -- ---- decodings taken apart
 
@@ -115,6 +116,33 @@ union-whole {depth = depth} {tag = tag} {r = r} p q l c =
       count = c .count;
     }
 
+-- a null that was read
+null-back : (depth : ℕ) (bs rest : List ℕ) → nullAt depth bs ≡ Read.got tt rest → bs ≡ nullBytes depth ++ rest
+unfolding startsFF
+null-back depth [] rest e = absurd (bad-got e)
+null-back depth (b ∷ bs) rest e =
+    let h = passed _ _ (eqb-test b 0) bad-got e in
+    ap (λ (x : ℕ). x ∷ bs) (h .0) ∙ go (ltb 0 depth) bs (h .1)
+  where
+    go : (c : Bool) (cs : List ℕ) → _≡_ {A = Read (Unit {0})} (if c (if (startsFF cs) (Read.got tt (drop 1 cs)) (Read.bad UnexpectedTerminator 0)) (Read.got tt cs)) (Read.got tt rest) → 0 ∷ cs ≡ if c (0 ∷ 0xFF ∷ []) (0 ∷ []) ++ rest
+    go true [] f = absurd (bad-got f)
+    go true (c ∷ cs) f = let g = passed _ _ (eqb-test c 0xFF) bad-got f in ap₂ (λ (x : ℕ) (l : List ℕ). 0 ∷ x ∷ l) (g .0) (cc (g .1))
+    go false cs f = ap (λ (l : List ℕ). 0 ∷ l) (cc)
+
+optional-made : (t : Ty) (depth : ℕ) (v : Val) → fits t depth v ≡ fine → fits (Ty.Optional t) depth v ≡ fine
+unfolding fits
+optional-made t depth v f = go (eqb (valKind v) 0)
+  where
+    go : (b : Bool) → if b fine (fits t depth v) ≡ fine
+    go true = refl
+    go false = f
+
+blank-whole : {t : Ty} {depth : ℕ} {bs rest : List ℕ} {a : Val} {r : List ℕ} {n : ℕ} → bs ≡ nullBytes depth ++ rest → Decoded.got Val.Null rest 1 ≡ Decoded.got a r n → Canon (Ty.Optional t) depth bs a r n
+unfolding fits valBytes begun
+blank-whole {depth = depth} {rest = rest} {r = r} q e =
+    let same : rest ≡ r = cc in
+    moved {b = Val.Null} {m = 1} (cc) (cc) (q ∙ ap (λ (x : List ℕ). nullBytes depth ++ x) same) record { bytes = refl; fit = refl; sound = tt; count = refl }
+
 mutual
   unfolding fits decode valBytes begun inUnion
 
@@ -154,6 +182,12 @@ mutual
       let u = uint-back (g .0) (rw (g .1) at h .1) (m .2) in
       let c = canonUnion alts depth (m .0) (m .1) a r n (m .3) (bytes-behind (uintBytes (m .0)) (m .1) (rw (u .0) at (rw (g .1) at h .1))) (m .4) in
       union-whole (g .1) (u .0) (u .1) c
+  canon (Ty.Optional t) depth bs a r n h e = go (nullAt depth bs) refl e (λ f. canon t depth bs a r n h f)
+    where
+      go : (m : Read Unit) → nullAt depth bs ≡ m → blankOr m (decode t depth bs) ≡ Decoded.got a r n → (decode t depth bs ≡ Decoded.got a r n → Canon t depth bs a r n)
+          → Canon (Ty.Optional t) depth bs a r n
+      go (Read.got u rest) q f behind = blank-whole (null-back depth bs rest q) f
+      go (Read.bad k d) q f behind = let c = behind f in record { bytes = c .bytes; fit = optional-made t depth a (c .fit); sound = c .sound; count = c .count }
 
   pub canons : (ts : Tys) (depth : ℕ) (bs : List ℕ) (vs : Vals) (r : List ℕ) (n : ℕ) → AllBytes bs → decodeGroup ts depth bs ≡ Decoded.got vs r n
       → Canons ts depth bs vs r n

@@ -13,8 +13,8 @@ use Rattle.format.specs.Sheet.{valWords, valPool}
 use Rattle.format.specs.TypeSheet.{typeOf}
 use Rattle.format.specs.Scalar.{uintBytes}
 use Rattle.format.specs.Encode.{valBytes, valsBytes, maxDepth}
-use Rattle.format.specs.Read.{Read, getInt, getStr, getBytes, getRef, getUint, endsHere}
-use Rattle.format.specs.Decode.{Decoded, scalar, after, both, unionEnd, withTag, decode, decodeGroup, decodeUnion, decodeBare, whole, decodeTyped, decodeKey}
+use Rattle.format.specs.Read.{Read, getInt, getStr, getBytes, getRef, getUint, endsHere, nullAt}
+use Rattle.format.specs.Decode.{Decoded, scalar, after, both, unionEnd, withTag, blankOr, decode, decodeGroup, decodeUnion, decodeBare, whole, decodeTyped, decodeKey}
 use Rattle.format.specs.Calls.{Filled, filled, decodedBy, checkedBy, decodeTypedCall, decodeKeyCall, checkKeyCall}
 use Rattle.format.proofs.Bytes.{AllBytes, bytes-behind}
 use Rattle.format.proofs.Begun.{begun, begunAll}
@@ -70,6 +70,10 @@ begun-both : {A B C : Type 0} (m : Decoded A) (f : List ℕ → Decoded B) (g : 
 begun-both (Decoded.got a s k) f g n p q = rw (begun-after k (g a) (f s)) (q a s k refl)
 begun-both (Decoded.bad e d k) f g n p q = p
 
+begun-blank : (m : Read Unit) (d : Decoded Val) (n : ℕ) → begunOf d ≤ n + 1 → begunOf (blankOr m d) ≤ n + 1
+begun-blank (Read.got u rest) d n h = omega arith
+begun-blank (Read.bad k e) d n h = h
+
 -- values decoded, and the bytes left
 spent : (t : Ty) (depth : ℕ) (bs : List ℕ) (a : Val) (r : List ℕ) (n : ℕ) → AllBytes bs → decode t depth bs ≡ Decoded.got a r n
     → n + length r ≤ length bs
@@ -98,6 +102,7 @@ mutual
       tagged (Read.got tag more) e f =
           let u = uint-back bs (h .1) e .0 in
           begun-if (ltb depth maxDepth) _ _ (omega (arith, f tag more (bytes-behind (uintBytes tag) more (subst AllBytes u (h .1))), ap length u, length-append (uintBytes tag) more)) (omega arith)
+  few (Ty.Optional t) depth bs h = begun-blank (nullAt depth bs) (decode t depth bs) (length bs) (few t depth bs h)
 
   pub fewGroup : (ts : Tys) (depth : ℕ) (bs : List ℕ) → AllBytes bs → begunOf (decodeGroup ts depth bs) ≤ length bs + 1
   fewGroup Tys.NoTy depth [] h = lit≤ tt
@@ -141,6 +146,7 @@ few-key Ty.Bytes bs h = few-typed Ty.Bytes bs h
 few-key (Ty.Ref p) bs h = few-typed (Ty.Ref p) bs h
 few-key (Ty.Record ts) bs h = omega (arith, begun-whole (after 0 Val.Record (decodeBare ts bs)), begun-after 0 Val.Record (decodeBare ts bs), few-bare ts bs h)
 few-key (Ty.Union alts) bs h = few-typed (Ty.Union alts) bs h
+few-key (Ty.Optional t) bs h = few-typed (Ty.Optional t) bs h
 
 -- ---- the calls of that count
 

@@ -107,6 +107,7 @@ key-order Ty.Str a b x y ea eb wa wb = typed-order Ty.Str a b x y ea eb wa wb
 key-order Ty.Bytes a b x y ea eb wa wb = typed-order Ty.Bytes a b x y ea eb wa wb
 key-order (Ty.Ref p) a b x y ea eb wa wb = typed-order (Ty.Ref p) a b x y ea eb wa wb
 key-order (Ty.Union alts) a b x y ea eb wa wb = typed-order (Ty.Union alts) a b x y ea eb wa wb
+key-order (Ty.Optional t) a b x y ea eb wa wb = typed-order (Ty.Optional t) a b x y ea eb wa wb
 key-order (Ty.Record ts) a b x y ea eb wa wb =
     let p = key-parts ts a x ea in
     let q = key-parts ts b y eb in

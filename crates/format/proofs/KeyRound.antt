@@ -94,6 +94,7 @@ keyBegun Ty.Bytes v = begun v
 keyBegun (Ty.Ref p) v = begun v
 keyBegun (Ty.Record ts) v = begunAll (fieldsIn v)
 keyBegun (Ty.Union alts) v = begun v
+keyBegun (Ty.Optional t) v = begun v
 
 pub record-round : (ts : Tys) (vs : Vals) → AllSound vs → fitsAll ts 0 vs ≡ fine
     → decodeKey (Ty.Record ts) (valsBytes 0 vs) ≡ Decoded.got (Val.Record vs) [] (begunAll vs)
@@ -110,6 +111,7 @@ key-round (Ty.Record ts) v x s e =
     let p = key-parts ts v x e in
     rw (← (p .2)) (record-round ts (fieldsIn v) (subst Sound (p .0) s) (p .1) ∙ ap (λ (u : Val). Decoded.got u [] (begunAll (fieldsIn v))) (sym (p .0)))
 key-round (Ty.Union alts) v x s e = typed-round (Ty.Union alts) v x s e
+key-round (Ty.Optional t) v x s e = typed-round (Ty.Optional t) v x s e
 
 -- what a key was decoded from is its encoding
 pub record KeyCanon (t : Ty) (x : List ℕ) (v : Val) (r : List ℕ) (n : ℕ) : Type 0 where
@@ -140,3 +142,4 @@ key-canon (Ty.Record ts) x v r n h e =
       count = m .4 ∙ zero-add (m .1) ∙ c .count ∙ ap (λ (u : Val). begunAll (fieldsIn u)) (sym (m .3));
     }
 key-canon (Ty.Union alts) x v r n h e = as-key refl refl (typed-canon (Ty.Union alts) x v r n h e)
+key-canon (Ty.Optional t) x v r n h e = as-key refl refl (typed-canon (Ty.Optional t) x v r n h e)

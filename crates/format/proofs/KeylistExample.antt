@@ -2,7 +2,7 @@
 use mathlib.Core.Path.{_≡_, refl}
 use mathlib.Core.List.{List, [], _∷_}
 use Prim.Native.Nat.{ℕ}
-use Rattle.format.specs.TypeSheet.{oneType, types, typeAt, typeOf}
+use Rattle.format.specs.TypeSheet.{anyType, oneType, types, typeAt, typeOf}
 use lib.Count.{leadingZeros}
 use Rattle.format.specs.Scalar.{width}
 use Rattle.format.specs.Read.{number, getBig, widthIs, getUint, getInt, startsFF, endsHere, getRun, getBytes}
@@ -24,5 +24,10 @@ output =
     ∷ 0x33 ∷ 0x09 ∷ 0x31 ∷ 0x09 ∷ 0x30 ∷ 0x09 ∷ 0x31 ∷ 0x0A ∷ []
 
 pub example : keylist input ≡ output
-unfolding keylist linesOf partsOf decimalFrom wordOf wordsOf typeIn hexDigit keyIn digits decimal row keyRows oneType types typeAt typeOf number getBig widthIs getUint getInt startsFF endsHere getRun decode decodeBare decodeKey whole checkKeyCall getBytes width leadingZeros
+unfolding keylist linesOf partsOf decimalFrom wordOf wordsOf typeIn hexDigit keyIn digits decimal row keyRows anyType oneType types typeAt typeOf number getBig widthIs getUint getInt startsFF endsHere getRun decode decodeBare decodeKey whole checkKeyCall getBytes width leadingZeros
 example = refl
+
+-- an optional Int and its blank: one value begun
+pub blank-line : keylist (0x37 ∷ 0x09 ∷ 0x31 ∷ 0x0A ∷ 0x30 ∷ 0x30 ∷ 0x0A ∷ []) ≡ 0x31 ∷ 0x09 ∷ 0x30 ∷ 0x09 ∷ 0x30 ∷ 0x09 ∷ 0x31 ∷ 0x0A ∷ []
+unfolding keylist linesOf partsOf decimalFrom wordOf wordsOf typeIn hexDigit keyIn digits decimal row keyRows anyType oneType types typeAt typeOf number getBig widthIs getUint getInt startsFF endsHere getRun decode decodeBare decodeKey whole checkKeyCall getBytes width leadingZeros
+blank-line = refl

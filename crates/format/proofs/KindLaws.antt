@@ -51,6 +51,20 @@ kind-of (Val.Union d v) = refl
 pub is-made : (v : Val) (m : ℕ) → m ≡ rank v → v ≡ built (kindOf m) v
 is-made v m e = built-is v ∙ ap (λ (n : ℕ). built n v) (kind-of v ∙ ap kindOf (sym e))
 
+-- kind 0 is Null alone, and so is rank 0
+pub is-null : (v : Val) → valKind v ≡ 0 → v ≡ Val.Null
+unfolding built
+is-null v e = built-is v ∙ ap (λ (n : ℕ). built n v) e
+
+pub not-zero : (v : Val) → (valKind v ≡ 0 → ⊥) → 0 < rank v
+not-zero Val.Null h = absurd (h refl)
+not-zero (Val.Int w) h = lit< tt
+not-zero (Val.Str s) h = lit< tt
+not-zero (Val.Bytes s) h = lit< tt
+not-zero (Val.Ref r) h = lit< tt
+not-zero (Val.Record vs) h = lit< tt
+not-zero (Val.Union d v) h = lit< tt
+
 -- the marks of integers, up to 50, end before the next kind
 pub past-int : (v : Val) → rank (Val.Int 0) < rank v → 0x50 < rank v
 past-int Val.Null h = absurd (omega arith)

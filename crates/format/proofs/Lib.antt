@@ -63,6 +63,7 @@
 -- SearchLaws   how many alternatives the search for a discriminant looks at
 -- Ranges       strinc writes the least end above a prefix
 -- RangeExamples   such ends worked by hand, and wrong ones that are not the least
+-- Blank        optional types: a blank is 00 or 00 FF and sorts first, anything else is the type behind word 7; no 7 straight behind another
 pub mod Specimens
 pub mod KeylistExample
 pub mod Bytes
@@ -113,3 +114,4 @@ pub mod ReferenceSplit
 pub mod SearchLaws
 pub mod Ranges
 pub mod RangeExamples
+pub mod Blank

@@ -4,7 +4,7 @@ use mathlib.Core.List.{List, [], _∷_, append-nil}
 use Prim.Native.Nat.{ℕ, _^_, _<_}
 use native.Mathlib.Omega.{arith}
 use Rattle.format.specs.Answer.{refused}
-use Rattle.format.specs.TypeSheet.{typeOf, typeAt, oneType}
+use Rattle.format.specs.TypeSheet.{typeOf, typeAt, anyType, oneType}
 use Rattle.format.specs.ValueSheet.{valueOf, valueAt, oneValue}
 use Rattle.format.specs.Scalar.{be, refBytes, predicateOf, sequenceOf}
 use Rattle.format.specs.Encode.{fitsRef, fits, encode}
@@ -17,12 +17,12 @@ use Rattle.format.proofs.ReadLaws.{getBig-be}
 
 module _ (p r : ℕ) {no detail : ℕ} (e : fitsRef p r ≡ refused no detail) where
   written : (out : List ℕ) → encodeTypedCall (4 ∷ p ∷ []) (4 ∷ r ∷ []) [] out ≡ record { answer = refused no detail; buffer = out }
-  unfolding encodeTypedCall typeOf typeAt oneType valueOf valueAt oneValue encode fits
+  unfolding encodeTypedCall typeOf typeAt anyType oneType valueOf valueAt oneValue encode fits
   written out = rw e
 
   read : r < 2 ^ 64 → (words pool : List ℕ)
       → decodeTypedCall (4 ∷ p ∷ []) (refBytes r) words pool ≡ record { answer = refused no detail; begun = 1; words = words; pool = pool }
-  unfolding decodeTypedCall typeOf typeAt oneType decode whole getRef
+  unfolding decodeTypedCall typeOf typeAt anyType oneType decode whole getRef
   read h words pool =
       let eight : getBig 8 (be 8 r) ≡ Read.got r [] = rw (append-nil (be 8 r)) at (getBig-be 8 r [] h) in
       rw (eight, e)

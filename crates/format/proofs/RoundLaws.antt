@@ -1,22 +1,24 @@
 -- What was encoded is decoded again, with its count of values.
-use mathlib.Core.Path.{_≡_, refl, subst}
+use mathlib.Core.Path.{_≡_, refl, subst, _∙_}
 use mathlib.Core.Bool.{Bool, true, false}
-use mathlib.Core.List.{List, _∷_, _++_, append-assoc}
+use mathlib.Core.Logic.{_≢_}
+use mathlib.Core.List.{List, [], _∷_, _++_, append-assoc}
 use Prim.Native.Nat.{ℕ, _+_, _<_}
 use native.Mathlib.Omega.{arith}
-use lib.Dec.{eqb, lit<}
+use lib.Dec.{ltb, eqb, lit<}
 use Rattle.format.specs.Answer.{Answer, ok, refused, if, BadRecord, TypeMismatch, BadUnion}
-use Rattle.format.specs.Tree.{Ty, Tys, Alts, Val, Vals, numberIn, runIn, fieldsIn, payloadIn}
+use Rattle.format.specs.Tree.{Ty, Tys, Alts, Val, Vals, valKind, numberIn, runIn, fieldsIn, payloadIn}
 use Rattle.format.specs.Sheet.{fieldCount, valCount}
+use Rattle.format.specs.TypeSheet.{NotOptional}
 use Rattle.format.specs.Scalar.{uintBytes}
 use Rattle.format.specs.Encode.{valBytes, valsBytes, fits, fitsAll, fitsUnion, inUnion, groupAt, maxDepth, fine}
-use Rattle.format.specs.Read.{startsFF, endsHere}
-use Rattle.format.specs.Decode.{Decoded, after, both, unionEnd, decode, decodeGroup, decodeUnion}
+use Rattle.format.specs.Read.{startsFF, endsHere, nullAt}
+use Rattle.format.specs.Decode.{Decoded, after, both, unionEnd, blankOr, decode, decodeGroup, decodeUnion}
 use Rattle.format.specs.Order.{rank}
 use Rattle.format.proofs.Begun.{begun, begunAll}
-use Rattle.format.proofs.Tests.{ltb-test, eqb-test, ltb-yes, eqb-no, passed}
+use Rattle.format.proofs.Tests.{Test, holds, fails, ltb-test, eqb-test, ltb-yes, eqb-no, passed}
 use Rattle.format.proofs.Sound.{Sound, AllSound}
-use Rattle.format.proofs.KindLaws.{built}
+use Rattle.format.proofs.KindLaws.{built, is-null, not-zero}
 use Rattle.format.proofs.OrderLaws.{marked}
 use Rattle.format.proofs.EncodeLaws.{no-answer, and-fine, of-kind}
 use Rattle.format.proofs.ReadLaws.{getUint-bytes, getInt-bytes, getStr-bytes, getBytes-bytes, getRef-bytes}
@@ -44,15 +46,29 @@ union-deep (Alts.AddAlt e t alts) depth d v f = go (eqb e d) f (union-deep alts 
     go true h rest = passed _ _ (ltb-test depth maxDepth) no-answer (union-fine d _ h) .0
     go false h rest = rest h
 
--- Null fits no type
-pub not-null : (t : Ty) (depth : ℕ) (v : Val) → fits t depth v ≡ fine → 0 < rank v
+-- Null fits an optional type and no other
+pub not-null : (t : Ty) (depth : ℕ) (v : Val) → NotOptional t → fits t depth v ≡ fine → 0 < rank v
 unfolding fits built
-not-null Ty.Int depth v f = rw (of-kind 1 v _ f .0) (lit< tt)
-not-null Ty.Str depth v f = rw (of-kind 2 v _ f .0) (lit< tt)
-not-null Ty.Bytes depth v f = rw (of-kind 3 v _ f .0) (lit< tt)
-not-null (Ty.Ref p) depth v f = rw (of-kind 4 v _ f .0) (lit< tt)
-not-null (Ty.Record ts) depth v f = rw (of-kind 5 v _ f .0) (lit< tt)
-not-null (Ty.Union alts) depth v f = rw (of-kind 6 v _ f .0) (lit< tt)
+not-null Ty.Int depth v o f = rw (of-kind 1 v _ f .0) (lit< tt)
+not-null Ty.Str depth v o f = rw (of-kind 2 v _ f .0) (lit< tt)
+not-null Ty.Bytes depth v o f = rw (of-kind 3 v _ f .0) (lit< tt)
+not-null (Ty.Ref p) depth v o f = rw (of-kind 4 v _ f .0) (lit< tt)
+not-null (Ty.Record ts) depth v o f = rw (of-kind 5 v _ f .0) (lit< tt)
+not-null (Ty.Union alts) depth v o f = rw (of-kind 6 v _ f .0) (lit< tt)
+not-null (Ty.Optional t) depth v o f = absurd o
+
+pub null-fits : (t : Ty) (depth : ℕ) → fits (Ty.Optional t) depth Val.Null ≡ fine
+unfolding fits
+null-fits t depth = refl
+
+-- what fits an optional type is Null, or fits the type behind it
+pub optional-fine : (t : Ty) (depth : ℕ) (v : Val) {P : Type 0} → fits (Ty.Optional t) depth v ≡ fine → (v ≡ Val.Null → P) → (0 < rank v → fits t depth v ≡ fine → P) → P
+unfolding fits
+optional-fine t depth v {P} f blank filled = go (eqb (valKind v) 0) (eqb-test (valKind v) 0) f
+  where
+    go : (b : Bool) → Test (valKind v ≡ 0) (valKind v ≢ 0) b → if b fine (fits t depth v) ≡ fine → P
+    go _ (holds p) g = blank (is-null v p)
+    go _ (fails p) g = filled (not-zero v p) g
 
 -- ---- what may follow
 
@@ -73,13 +89,28 @@ pub ends : (r : List ℕ) → startsFF r ≡ false → endsHere (0 ∷ r) ≡ tr
 unfolding endsHere
 ends r e = rw e
 
--- a field of a group does not begin with the group's end
-group-step : (t : Ty) (ts : Tys) (depth : ℕ) (v : Val) (z : List ℕ) → Sound v → 0 < rank v
+-- a field of a group does not begin with the group's end, a null neither
+group-step : (t : Ty) (ts : Tys) (depth : ℕ) (v : Val) (z : List ℕ) → Sound v → 0 < depth
     → decodeGroup (Tys.AddTy t ts) depth (valBytes depth v ++ z) ≡ both (decode t depth (valBytes depth v ++ z)) (λ rest. decodeGroup ts depth rest) Vals.AddVal
-unfolding decodeGroup endsHere
-group-step t ts depth v z s h =
-    let m = marked depth v s in
-    rw (m .bytes, eqb-no (m .mark) 0 (omega (arith, m .least)))
+unfolding decodeGroup endsHere startsFF valBytes
+group-step t ts depth v z s l = go (eqb (valKind v) 0) (eqb-test (valKind v) 0)
+  where
+    go : (b : Bool) → Test (valKind v ≡ 0) (valKind v ≢ 0) b
+        → decodeGroup (Tys.AddTy t ts) depth (valBytes depth v ++ z) ≡ both (decode t depth (valBytes depth v ++ z)) (λ rest. decodeGroup ts depth rest) Vals.AddVal
+    go _ (holds p) = rw (is-null v p, ltb-yes 0 depth l)
+    go _ (fails p) = let m = marked depth v s in rw (m .bytes, eqb-no (m .mark) 0 (omega (arith, m .least, not-zero v p)))
+
+-- a null is read as one, and nothing else is
+null-read : (depth : ℕ) (d : Decoded Val) (r : List ℕ) → blankOr (nullAt depth (valBytes depth Val.Null ++ r)) d ≡ Decoded.got Val.Null r 1
+unfolding valBytes startsFF
+null-read depth d r = go (ltb 0 depth) refl
+  where
+    go : (b : Bool) → ltb 0 depth ≡ b → blankOr (nullAt depth (if b (0 ∷ 0xFF ∷ []) (0 ∷ []) ++ r)) d ≡ Decoded.got Val.Null r 1
+    go true e = rw e
+    go false e = rw e
+
+filled-read : (depth : ℕ) (v : Val) (d : Decoded Val) (r : List ℕ) → Sound v → 0 < rank v → blankOr (nullAt depth (valBytes depth v ++ r)) d ≡ d
+filled-read depth v d r s h = let m = marked depth v s in rw (m .bytes, eqb-no (m .mark) 0 (omega (arith, m .least)))
 
 -- ---- the round trip
 
@@ -96,7 +127,7 @@ mutual
       let m = of-kind 5 a _ f in
       let g = passed _ _ (eqb-test (fieldCount ts) (valCount (fieldsIn a))) no-answer (m .1) in
       let h = passed _ _ (ltb-test depth maxDepth) no-answer (g .1) in
-      rw (m .0, append-assoc (valsBytes (depth + 1) (fieldsIn a)), ltb-yes depth maxDepth (h .0), rounds ts (depth + 1) (fieldsIn a) r (h .1) (subst Sound (m .0) s) e)
+      rw (m .0, append-assoc (valsBytes (depth + 1) (fieldsIn a)), ltb-yes depth maxDepth (h .0), rounds ts (depth + 1) (fieldsIn a) r (omega arith) (h .1) (subst Sound (m .0) s) e)
   round (Ty.Union alts) depth a r f s e =
       let m = of-kind 6 a _ f in
       let su : Sound (Val.Union (numberIn a) (payloadIn a)) = subst Sound (m .0) s in
@@ -108,19 +139,23 @@ mutual
         ltb-yes depth maxDepth (union-deep alts depth (numberIn a) (payloadIn a) (m .1)),
       )
       (roundUnion alts depth (numberIn a) (payloadIn a) r (m .1) (su .1) e)
+  round (Ty.Optional t) depth a r f s e =
+      optional-fine t depth a f (λ p. rw p (null-read depth (decode t depth (valBytes depth Val.Null ++ r)) r))
+      (λ h g. filled-read depth a (decode t depth (valBytes depth a ++ r)) r s h ∙ round t depth a r g s e)
 
-  pub rounds : (ts : Tys) (depth : ℕ) (vs : Vals) (r : List ℕ) → fitsAll ts depth vs ≡ fine → AllSound vs → startsFF r ≡ false
+  -- inside a group, so that a null is no end
+  pub rounds : (ts : Tys) (depth : ℕ) (vs : Vals) (r : List ℕ) → 0 < depth → fitsAll ts depth vs ≡ fine → AllSound vs → startsFF r ≡ false
       → decodeGroup ts depth (valsBytes depth vs ++ 0 ∷ r) ≡ Decoded.got vs r (begunAll vs)
-  rounds Tys.NoTy depth Vals.NoVal r f s e = rw (ends r e)
-  rounds Tys.NoTy depth (Vals.AddVal v vs) r f s e = cc
-  rounds (Tys.AddTy t ts) depth Vals.NoVal r f s e = cc
-  rounds (Tys.AddTy t ts) depth (Vals.AddVal v vs) r f s e =
+  rounds Tys.NoTy depth Vals.NoVal r l f s e = rw (ends r e)
+  rounds Tys.NoTy depth (Vals.AddVal v vs) r l f s e = cc
+  rounds (Tys.AddTy t ts) depth Vals.NoVal r l f s e = cc
+  rounds (Tys.AddTy t ts) depth (Vals.AddVal v vs) r l f s e =
       let h = and-fine (fits t depth v) (fitsAll ts depth vs) f in
       rw (
         append-assoc (valBytes depth v),
-        group-step t ts depth v (valsBytes depth vs ++ 0 ∷ r) (s .0) (not-null t depth v (h .0)),
+        group-step t ts depth v (valsBytes depth vs ++ 0 ∷ r) (s .0) l,
         round t depth v (valsBytes depth vs ++ 0 ∷ r) (h .0) (s .0) (starts-vals depth vs (s .1) (0 ∷ r) (zero-starts r)),
-        rounds ts depth vs r (h .1) (s .1) e,
+        rounds ts depth vs r l (h .1) (s .1) e,
       )
 
   pub roundUnion : (alts : Alts) (depth d : ℕ) (v : Val) (r : List ℕ) → fitsUnion alts depth d v ≡ fine → Sound v → startsFF r ≡ false

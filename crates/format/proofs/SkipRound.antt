@@ -1,5 +1,6 @@
--- A value's bytes are skipped as one field, exactly, and so is an encoded field; a null where the escape is required and where it is not.
-use mathlib.Core.Path.{_≡_, refl, _∙_}
+-- A value's bytes are skipped as one field, exactly, and so is an encoded field; a null where the escape is required and where it is not, so a blank too.
+use mathlib.Core.Path.{_≡_, refl, ap, _∙_}
+use mathlib.Core.Logic.{_≢_}
 use mathlib.Core.Bool.{Bool, true, false, _||_, _&&_}
 use mathlib.Core.List.{List, _∷_, _++_, append-assoc}
 use Prim.Native.Nat.{ℕ, _+_, _-_, _^_, _≤_, _<_}
@@ -8,7 +9,7 @@ use lib.Dec.{ltb, eqb}
 use lib.ListN.{length, length-append}
 use lib.Seq.{drop-at}
 use Rattle.format.specs.Answer.{if, ok, UnexpectedTerminator}
-use Rattle.format.specs.Tree.{Ty, Tys, Alts, Val, Vals, numberIn, fieldsIn, payloadIn}
+use Rattle.format.specs.Tree.{Ty, Tys, Alts, Val, Vals, valKind, numberIn, fieldsIn, payloadIn}
 use Rattle.format.specs.Sheet.{fieldCount, valCount}
 use Rattle.format.specs.Scalar.{be, width, uintBytes, negBytes, intBytes, magnitude, escaped}
 use Rattle.format.specs.Encode.{valBytes, valsBytes, maxDepth, fits, fitsAll, fitsUnion, inUnion, groupAt, fine, encode}
@@ -17,10 +18,10 @@ use Rattle.format.specs.Skip.{passBytes, passNull, passField, turn, skip
 use Rattle.format.proofs.Tests.{Test, holds, fails, ltb-test, eqb-test, leb-yes, ltb-yes, ltb-no, eqb-no, passed}
 use Rattle.format.proofs.ScalarLaws.{wide, width-pos}
 use Rattle.format.proofs.Sound.{Sound, AllSound}
-use Rattle.format.proofs.KindLaws.{built}
+use Rattle.format.proofs.KindLaws.{built, is-null}
 use Rattle.format.proofs.EncodeLaws.{no-answer, and-fine, accepted, of-kind}
 use Rattle.format.proofs.ReadLaws.{length-be, getUint-bytes, getRun-escaped}
-use Rattle.format.proofs.RoundLaws.{union-fine, starts-vals, ends, zero-starts}
+use Rattle.format.proofs.RoundLaws.{union-fine, optional-fine, starts-vals, ends, zero-starts}
 use Rattle.format.proofs.SkipLaws.{ended, walkFrom, walk-step, skip-walk}
 
 -- no Null at depth 0, and groups only where the depth allows them
@@ -170,41 +171,36 @@ skip-val v escape r s o e = skip-walk escape (valBytes 0 v ++ r) ∙ past v esca
 mutual
   unfolding fits built
 
-  pub fits-open : (t : Ty) (depth : ℕ) (v : Val) → fits t depth v ≡ fine → Open depth v
-  fits-open Ty.Int depth v f = rw (of-kind 1 v _ f .0) tt
-  fits-open Ty.Str depth v f = rw (of-kind 2 v _ f .0) tt
-  fits-open Ty.Bytes depth v f = rw (of-kind 3 v _ f .0) tt
-  fits-open (Ty.Ref p) depth v f = rw (of-kind 4 v _ f .0) tt
-  fits-open (Ty.Record ts) depth v f =
+  pub fits-open : (t : Ty) (depth : ℕ) (v : Val) → (v ≡ Val.Null → 0 < depth) → fits t depth v ≡ fine → Open depth v
+  fits-open Ty.Int depth v z f = rw (of-kind 1 v _ f .0) tt
+  fits-open Ty.Str depth v z f = rw (of-kind 2 v _ f .0) tt
+  fits-open Ty.Bytes depth v z f = rw (of-kind 3 v _ f .0) tt
+  fits-open (Ty.Ref p) depth v z f = rw (of-kind 4 v _ f .0) tt
+  fits-open (Ty.Record ts) depth v z f =
       let m = of-kind 5 v _ f in
       let g = passed _ _ (eqb-test (fieldCount ts) (valCount (fieldsIn v))) no-answer (m .1) in
       let h = passed _ _ (ltb-test depth maxDepth) no-answer (g .1) in
-      rw (m .0) (h .0, fits-opens ts (depth + 1) (fieldsIn v) (h .1))
-  fits-open (Ty.Union alts) depth v f = let m = of-kind 6 v _ f in rw (m .0) (fits-payload alts depth (numberIn v) (payloadIn v) (m .1))
+      rw (m .0) (h .0, fits-opens ts (depth + 1) (fieldsIn v) (omega arith) (h .1))
+  fits-open (Ty.Optional t) depth v z f = optional-fine t depth v f (λ p. rw p (z p)) (λ h g. fits-open t depth v z g)
+  fits-open (Ty.Union alts) depth v z f = let m = of-kind 6 v _ f in rw (m .0) (fits-payload alts depth (numberIn v) (payloadIn v) (m .1))
 
-  fits-opens : (ts : Tys) (depth : ℕ) (vs : Vals) → fitsAll ts depth vs ≡ fine → OpenAll depth vs
-  fits-opens Tys.NoTy depth Vals.NoVal f = tt
-  fits-opens Tys.NoTy depth (Vals.AddVal v vs) f = absurd (no-answer f)
-  fits-opens (Tys.AddTy t ts) depth Vals.NoVal f = tt
-  fits-opens (Tys.AddTy t ts) depth (Vals.AddVal v vs) f =
+  fits-opens : (ts : Tys) (depth : ℕ) (vs : Vals) → 0 < depth → fitsAll ts depth vs ≡ fine → OpenAll depth vs
+  fits-opens Tys.NoTy depth Vals.NoVal l f = tt
+  fits-opens Tys.NoTy depth (Vals.AddVal v vs) l f = absurd (no-answer f)
+  fits-opens (Tys.AddTy t ts) depth Vals.NoVal l f = tt
+  fits-opens (Tys.AddTy t ts) depth (Vals.AddVal v vs) l f =
       let h = and-fine (fits t depth v) (fitsAll ts depth vs) f in
-      (fits-open t depth v (h .0), fits-opens ts depth vs (h .1))
+      (fits-open t depth v (λ e. l) (h .0), fits-opens ts depth vs l (h .1))
 
   fits-payload : (alts : Alts) (depth d : ℕ) (v : Val) → fitsUnion alts depth d v ≡ fine → (depth < maxDepth) × Open (depth + 1) v
   fits-payload Alts.NoAlt depth d v f = absurd (no-answer f)
-  fits-payload (Alts.AddAlt tag t alts) depth d v f = go (eqb tag d) f (λ h. fits-open t (depth + 1) v h) (λ h. fits-payload alts depth d v h)
+  fits-payload (Alts.AddAlt tag t alts) depth d v f = go (eqb tag d) f (λ h. fits-open t (depth + 1) v (λ e. omega arith) h) (λ h. fits-payload alts depth d v h)
     where
       go : (b : Bool) → if b (inUnion d (groupAt depth (fits t (depth + 1) v))) (fitsUnion alts depth d v) ≡ fine
           → (fits t (depth + 1) v ≡ fine → Open (depth + 1) v) → (fitsUnion alts depth d v ≡ fine → (depth < maxDepth) × Open (depth + 1) v)
           → (depth < maxDepth) × Open (depth + 1) v
       go true h one rest = let g = passed _ _ (ltb-test depth maxDepth) no-answer (union-fine d _ h) in (g .0, one (g .1))
       go false h one rest = rest h
-
--- an encoded field is skipped exactly, whether the escape of a null is required or not
-pub skip-encoded : (t : Ty) (v : Val) (x : List ℕ) (escape : Bool) (r : List ℕ) → encode t 0 v ≡ ok x → Sound v → startsFF r ≡ false
-    → skip escape (x ++ r) ≡ Read.got tt r
-unfolding encode
-skip-encoded t v x escape r e s f = let h = accepted (fits t 0 v) e in rw (← (h .1)) (skip-val v escape r s (fits-open t 0 v (h .0)) f)
 
 -- ---- nulls
 
@@ -224,3 +220,17 @@ skip-null-escaped r = skip-walk true (0 ∷ 0xFF ∷ r) ∙ step true 0 0 (0 ∷
 -- and a 00 without FF is UnexpectedTerminator
 pub skip-null-bare : (r : List ℕ) → startsFF r ≡ false → skip true (0 ∷ r) ≡ Read.bad UnexpectedTerminator 0
 skip-null-bare r e = skip-walk true (0 ∷ r) ∙ rw (walk-step true 0 (0 ∷ r), null-turn true r, e)
+
+-- ---- an encoded field
+
+-- It is skipped exactly, but for a blank where the escape of a null is required: its bare 00 is UnexpectedTerminator there.
+pub skip-encoded : (t : Ty) (v : Val) (x : List ℕ) (escape : Bool) (r : List ℕ) → encode t 0 v ≡ ok x → Sound v → startsFF r ≡ false
+    → skip escape (x ++ r) ≡ if (escape && eqb (valKind v) 0) (Read.bad UnexpectedTerminator 0) (Read.got tt r)
+unfolding encode valBytes
+skip-encoded t v x escape r e s f = let h = accepted (fits t 0 v) e in rw (← (h .1)) (go escape (eqb (valKind v) 0) (eqb-test (valKind v) 0) (h .0))
+  where
+    go : (y z : Bool) → Test (valKind v ≡ 0) (valKind v ≢ 0) z → fits t 0 v ≡ fine → skip y (valBytes 0 v ++ r) ≡ if (y && z) (Read.bad UnexpectedTerminator 0) (Read.got tt r)
+    go true _ (holds p) g = rw (is-null v p) (skip-null-bare r f)
+    go false _ (holds p) g = rw (is-null v p) (skip-null r)
+    go true _ (fails p) g = skip-val v true r s (fits-open t 0 v (λ q. absurd (p (ap valKind q))) g) f
+    go false _ (fails p) g = skip-val v false r s (fits-open t 0 v (λ q. absurd (p (ap valKind q))) g) f

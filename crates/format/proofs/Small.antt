@@ -10,7 +10,7 @@ use Rattle.format.specs.Tree.{Ty, Tys, Alts, Val, Vals}
 use Rattle.format.specs.Sheet.{tyWords, valWords, valPool}
 use Rattle.format.specs.Bounds.{Below}
 use Rattle.format.proofs.SheetPlaces.{Span}
-use Rattle.format.proofs.TypePlaces.{TypeIn, TypesIn, AltsIn, record-in, union-in, ref-in, field-in, alt-in}
+use Rattle.format.proofs.TypePlaces.{TypeIn, TypesIn, AltsIn, record-in, union-in, optional-in, ref-in, field-in, alt-in}
 use Rattle.format.proofs.ValuePlaces as values
 
 unfoldable mutual
@@ -21,6 +21,7 @@ unfoldable mutual
   Small (Ty.Ref p) = p < 2 ^ 32
   Small (Ty.Record ts) = Smalls ts
   Small (Ty.Union us) = SmallAlts us
+  Small (Ty.Optional t) = Small t
 
   pub Smalls : Tys → Type 0
   Smalls Tys.NoTy = Unit {0}
@@ -40,6 +41,7 @@ mutual
   small-type (Ty.Ref x) w p e b s = subst (λ (n : ℕ). n < 2 ^ 32) (ref-in w p e x s .1) (b (p + 1))
   small-type (Ty.Record ts) w p e b s = small-types ts w (p + 2) e b (record-in w p e ts s .2)
   small-type (Ty.Union us) w p e b s = small-alts us w (p + 2) e b (union-in w p e us s .2)
+  small-type (Ty.Optional t) w p e b s = small-type t w (p + 1) e b (optional-in w p e t s .0)
 
   small-types : (ts : Tys) (w : List ℕ) (p e : ℕ) → Below (2 ^ 32) w → TypesIn w p ts e → Smalls ts
   small-types Tys.NoTy w p e b s = tt

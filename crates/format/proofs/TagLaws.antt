@@ -16,7 +16,7 @@ use Rattle.format.proofs.Tests.{Test, holds, fails, ltb-test, eqb-test,
 use Rattle.format.proofs.Sound.{Sound, AllSound}
 use Rattle.format.proofs.KindLaws.{built}
 use Rattle.format.proofs.EncodeLaws.{no-answer, and-fine, accepted, of-kind, key-parts}
-use Rattle.format.proofs.RoundLaws.{union-fine}
+use Rattle.format.proofs.RoundLaws.{union-fine, optional-fine}
 use Rattle.format.proofs.CanonLaws.{canon}
 use Rattle.format.proofs.KeyRound.{key-canon}
 
@@ -29,6 +29,7 @@ abbrev mutual
   SmallTy (Ty.Ref p) = Unit
   SmallTy (Ty.Record ts) = SmallTys ts
   SmallTy (Ty.Union alts) = SmallAlts alts
+  SmallTy (Ty.Optional t) = SmallTy t
 
   pub SmallTys : Tys → Type 0
   SmallTys Tys.NoTy = Unit
@@ -67,6 +68,7 @@ mutual
       let h = passed _ _ (ltb-test depth maxDepth) no-answer (g .1) in
       rw (m .0) (fits-all-tagged ts (depth + 1) (fieldsIn v) (h .1) s)
   fits-tagged (Ty.Union alts) depth v f s = let m = of-kind 6 v _ f in rw (m .0) (union-tagged alts depth (numberIn v) (payloadIn v) (m .1) s)
+  fits-tagged (Ty.Optional t) depth v f s = optional-fine t depth v f (λ p. rw p tt) (λ h g. fits-tagged t depth v g s)
 
   pub fits-all-tagged : (ts : Tys) (depth : ℕ) (vs : Vals) → fitsAll ts depth vs ≡ fine → SmallTys ts → AllTagged vs
   fits-all-tagged Tys.NoTy depth Vals.NoVal f s = tt
@@ -100,6 +102,7 @@ key-tagged Ty.Bytes v x e s = fits-tagged Ty.Bytes 0 v (accepted (fits Ty.Bytes 
 key-tagged (Ty.Ref p) v x e s = fits-tagged (Ty.Ref p) 0 v (accepted (fits (Ty.Ref p) 0 v) e .0) s
 key-tagged (Ty.Record ts) v x e s = let p = key-parts ts v x e in rw (p .0) (fits-all-tagged ts 0 (fieldsIn v) (p .1) s)
 key-tagged (Ty.Union alts) v x e s = fits-tagged (Ty.Union alts) 0 v (accepted (fits (Ty.Union alts) 0 v) e .0) s
+key-tagged (Ty.Optional t) v x e s = fits-tagged (Ty.Optional t) 0 v (accepted (fits (Ty.Optional t) 0 v) e .0) s
 
 pub decodeKey-tagged : (t : Ty) (x : List ℕ) (v : Val) (r : List ℕ) (n : ℕ) → AllBytes x → SmallTy t → decodeKey t x ≡ Decoded.got v r n → Tagged v
 decodeKey-tagged t x v r n h s e = key-tagged t v x (key-canon t x v r n h e .bytes) s

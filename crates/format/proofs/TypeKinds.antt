@@ -8,21 +8,12 @@ use lib.ListN.{length, getD}
 use Rattle.format.specs.Answer.{Answer, refused, NoField}
 use Rattle.format.specs.Tree.{Ty, Tys, Alts, Val}
 use Rattle.format.specs.Sheet.{tyWords, fieldCount, altCount}
-use Rattle.format.specs.TypeSheet.{nesting, nestings, altNestings}
+use Rattle.format.specs.TypeSheet.{nesting, nestings, altNestings, NotOptional}
 use Rattle.format.specs.Encode.{encodeTyped, keyBytes}
 use Rattle.format.specs.Decode.{decodeTyped, decodeKey}
 use Rattle.format.specs.Calls.{withFields}
-use Rattle.format.proofs.TypePlaces.{TypeIn, TypesIn, AltsIn, tyKind, kind-is, record-in, union-in, ref-in}
-use Rattle.format.proofs.FitLaws.{typed, kinds, typesIn, altsIn, predicateIn}
-
-typed-is : (t : Ty) → t ≡ typed (tyKind t) t
-unfolding typed
-typed-is Ty.Int = refl
-typed-is Ty.Str = refl
-typed-is Ty.Bytes = refl
-typed-is (Ty.Ref p) = refl
-typed-is (Ty.Record ts) = refl
-typed-is (Ty.Union us) = refl
+use Rattle.format.proofs.TypePlaces.{TypeIn, TypesIn, AltsIn, tyKind, kind-is, record-in, union-in, ref-in, optional-in}
+use Rattle.format.proofs.FitLaws.{typed, typed-is, kinds, plain-kinds, typesIn, altsIn, predicateIn, behindIn}
 
 -- what holds of the type of a kind
 pub of-type : (P : Ty → Type 0) (k : ℕ) (t : Ty) → tyKind t ≡ k → P (typed k t) → P t
@@ -52,9 +43,17 @@ pub record UnionHere (w : List ℕ) (p : ℕ) (t : Ty) (e : ℕ) : Type 0 where
   pub alts : AltsIn w (p + 2) us e
   pub deep : altNestings us < nesting t
 
+-- an optional type at a place: the type behind word 7, which is none
+pub record OptionalHere (w : List ℕ) (p : ℕ) (t : Ty) (e : ℕ) : Type 0 where
+  pub filled : Ty
+  pub is : t ≡ Ty.Optional filled
+  pub behind : TypeIn w (p + 1) filled e
+  pub plain : NotOptional filled
+  pub deep : nesting filled ≡ nesting t
+
 module _ {w : List ℕ} {p e : ℕ} (t : Ty) (s : TypeIn w p t e) where
   -- the number at the place is a kind's
-  pub kind-here : (p < length w) × (1 ≤ getD w p 0) × (getD w p 0 ≤ 6)
+  pub kind-here : (p < length w) × (1 ≤ getD w p 0) × (getD w p 0 ≤ 7)
   kind-here =
       let k = kind-is w p e t s in
       let b = kinds t in
@@ -64,7 +63,7 @@ module _ {w : List ℕ} {p e : ℕ} (t : Ty) (s : TypeIn w p t e) where
   here k q = of-type (λ (u : Ty). u ≡ typed k t) k t (sym (kind-is w p e t s .1) ∙ q) refl
 
   ends-as : (u : Ty) → t ≡ u → e ≡ p + length (tyWords u)
-  ends-as u q = s .long ∙ ap (λ (x : Ty). p + length (tyWords x)) q
+  ends-as u q = s .span .long ∙ ap (λ (x : Ty). p + length (tyWords x)) q
 
   -- the kinds of one word
   pub int-here : getD w p 0 ≡ 1 → (t ≡ Ty.Int) × (e ≡ p + 1)
@@ -102,6 +101,29 @@ module _ {w : List ℕ} {p e : ℕ} (t : Ty) (s : TypeIn w p t e) where
       let n : nesting t ≡ nesting (Ty.Union (altsIn t)) = ap nesting i in
       record { us = altsIn t; is = i; second = f .0; count = f .1; alts = f .2; deep = omega arith }
 
+  pub optional-here : getD w p 0 ≡ 7 → OptionalHere w p t e
+  unfolding typed nesting
+  optional-here q =
+      let i = here 7 q in
+      let f = optional-in w p e (behindIn t) (subst (λ (x : Ty). TypeIn w p x e) i s) in
+      record { filled = behindIn t; is = i; behind = f .0; plain = f .1; deep = sym (ap nesting i) }
+
+  -- word 7 stands before every optional type and before no other
+  pub plain-here : (getD w p 0 ≡ 7 → ⊥) → NotOptional t
+  plain-here n = other t (λ q. n (kind-is w p e t s .1 ∙ q))
+    where
+      other : (u : Ty) → (tyKind u ≡ 7 → ⊥) → NotOptional u
+      other Ty.Int m = tt
+      other Ty.Str m = tt
+      other Ty.Bytes m = tt
+      other (Ty.Ref x) m = tt
+      other (Ty.Record ts) m = tt
+      other (Ty.Union us) m = tt
+      other (Ty.Optional u) m = m refl
+
+  pub plain-kind : NotOptional t → getD w p 0 ≤ 6
+  plain-kind o = omega (arith, kind-is w p e t s .1, plain-kinds t o)
+
 -- ---- a record or not: what a key, its bytes and the calls on fields ask
 
 pub record NoRecord (t : Ty) : Type 1 where
@@ -117,3 +139,4 @@ no-record Ty.Bytes n = record { bytes = λ v. refl; value = λ bs. refl; fields 
 no-record (Ty.Ref p) n = record { bytes = λ v. refl; value = λ bs. refl; fields = λ f. refl }
 no-record (Ty.Record ts) n = absurd (n refl)
 no-record (Ty.Union us) n = record { bytes = λ v. refl; value = λ bs. refl; fields = λ f. refl }
+no-record (Ty.Optional t) n = record { bytes = λ v. refl; value = λ bs. refl; fields = λ f. refl }

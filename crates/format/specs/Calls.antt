@@ -141,6 +141,7 @@ withFields Ty.Bytes f = refused NoField 0
 withFields (Ty.Ref p) f = refused NoField 0
 withFields (Ty.Record ts) f = f ts
 withFields (Ty.Union alts) f = refused NoField 0
+withFields (Ty.Optional t) f = refused NoField 0
 
 -- the fields of a key that decodes, or the decoding's refusal
 abbrev pub withKey : {A : Type 0} → Decoded Val → (Vals → Answer A) → Answer A

@@ -4,11 +4,12 @@ use mathlib.Core.List.{List, [], _∷_}
 use mathlib.Core.Bool.{Bool, false}
 use lib.Dec.{ltb, leb, eqb}
 use lib.ListN.{length, drop}
-use Rattle.format.specs.Answer.{if, Answer, ok, refused, andThen, noRoom, UnexpectedEof, UnexpectedMark, UnexpectedTerminator, BadString, BadRecord}
+use Rattle.format.specs.Answer.{if, Answer, ok, refused, andThen, noRoom, UnexpectedEof, UnexpectedMark, BadString, BadRecord}
 use Rattle.format.specs.Scalar.{intBytes, uintBytes, strBytes, bytesBytes, refBytes, tagBytes}
 use Rattle.format.specs.Utf8.{utf8}
 use Rattle.format.specs.Encode.{maxDepth, nullBytes}
-use Rattle.format.specs.Read.{Read, getInt, getUint, getStr, getBytes, getFactId, startsFF, endsHere}
+use Rattle.format.specs.Read.{Read, getInt, getUint, getStr, getBytes, getFactId, endsHere}
+pub use Rattle.format.specs.Read.{nullAt}
 use Rattle.format.specs.Calls.{Called}
 use Rattle.format.specs.Fields.{Taken, Place, Payload, placedFrom, putAt}
 
@@ -48,12 +49,6 @@ takeU64 key c = movedBy (rest key c) c (deep c) (getUint (rest key c))
 -- ReservedFactId, but no predicate check: no type is at hand
 unfoldable pub takeFactId : List ℕ → Cursor → Answer (Moved ℕ)
 takeFactId key c = movedBy (rest key c) c (deep c) (getFactId (rest key c))
-
--- a null behind its 00: inside a group FF follows, or it is UnexpectedTerminator
-abbrev pub nullAt : ℕ → List ℕ → Read Unit
-nullAt depth [] = Read.bad UnexpectedEof 0
-nullAt depth (b ∷ bs) =
-    if (eqb b 0) (if (ltb 0 depth) (if (startsFF bs) (Read.got tt (drop 1 bs)) (Read.bad UnexpectedTerminator 0)) (Read.got tt bs)) (Read.bad UnexpectedMark b)
 
 unfoldable pub takeNull : List ℕ → Cursor → Answer (Moved Unit)
 takeNull key c = movedBy (rest key c) c (deep c) (nullAt (deep c) (rest key c))

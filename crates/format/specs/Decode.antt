@@ -5,7 +5,7 @@ use lib.Dec.{ltb, eqb}
 use Rattle.format.specs.Answer.{if, UnexpectedEof, UnexpectedMark, BadRecord, UnknownDiscriminant}
 use Rattle.format.specs.Tree.{Ty, Tys, Alts, Val, Vals}
 use Rattle.format.specs.Encode.{maxDepth}
-use Rattle.format.specs.Read.{Read, getInt, getStr, getBytes, getRef, getUint, endsHere}
+use Rattle.format.specs.Read.{Read, getInt, getStr, getBytes, getRef, getUint, endsHere, nullAt}
 
 -- a decoded value, the bytes behind it and the values begun; or a refusal and the values begun
 pub data Decoded (A : Type 0) : Type 0 where
@@ -43,6 +43,11 @@ abbrev pub withTag : {A : Type 0} → ℕ → Read ℕ → (ℕ → List ℕ →
 withTag depth (Read.bad n d) f = Decoded.bad n d 1
 withTag depth (Read.got tag rest) f = if (ltb depth maxDepth) (f tag rest) (Decoded.bad BadRecord 0 1)
 
+-- a null, which is one value begun, where one stands; else what is read there
+abbrev pub blankOr : Read Unit → Decoded Val → Decoded Val
+blankOr (Read.got u rest) filled = Decoded.got Val.Null rest 1
+blankOr (Read.bad n d) filled = filled
+
 unfoldable mutual
   -- a value of a type, at a depth
   pub decode : Ty → ℕ → List ℕ → Decoded Val
@@ -53,6 +58,7 @@ unfoldable mutual
   decode (Ty.Record ts) depth bs =
       opened 0x22 (λ rest. if (ltb depth maxDepth) (after 1 Val.Record (decodeGroup ts (depth + 1) rest)) (Decoded.bad BadRecord 0 1)) bs
   decode (Ty.Union alts) depth bs = opened 0x52 (λ rest. withTag depth (getUint rest) (λ tag more. decodeUnion alts depth tag more)) bs
+  decode (Ty.Optional t) depth bs = blankOr (nullAt depth bs) (decode t depth bs)
 
   -- a group's fields and its end: an early or a late end is BadRecord
   pub decodeGroup : Tys → ℕ → List ℕ → Decoded Vals
@@ -91,3 +97,4 @@ decodeKey Ty.Bytes bs = decodeTyped Ty.Bytes bs
 decodeKey (Ty.Ref p) bs = decodeTyped (Ty.Ref p) bs
 decodeKey (Ty.Record ts) bs = whole (after 0 Val.Record (decodeBare ts bs))
 decodeKey (Ty.Union alts) bs = decodeTyped (Ty.Union alts) bs
+decodeKey (Ty.Optional t) bs = decodeTyped (Ty.Optional t) bs

@@ -8,7 +8,7 @@ use Rattle.format.specs.Tree.{Ty, Tys, Alts, Val, Vals, valKind, numberI
 use Rattle.format.specs.Sheet.{fieldCount, valCount}
 use Rattle.format.specs.Scalar.{intBytes, uintBytes, strBytes, bytesBytes, refBytes, predicateOf, sequenceOf}
 
--- a null: 00 FF inside a group, 00 at depth 0 (no type takes it; the writing cursor writes it)
+-- a null: 00 FF inside a group, 00 at depth 0 (only an optional type takes it)
 abbrev pub nullBytes : ℕ → List ℕ
 nullBytes depth = if (ltb 0 depth) (0 ∷ 0xFF ∷ []) (0 ∷ [])
 
@@ -61,6 +61,7 @@ unfoldable mutual
   fits (Ty.Record ts) depth v =
       ofKind 5 v (if (eqb (fieldCount ts) (valCount (fieldsIn v))) (groupAt depth (fitsAll ts (depth + 1) (fieldsIn v))) (refused BadRecord 0))
   fits (Ty.Union alts) depth v = ofKind 6 v (fitsUnion alts depth (numberIn v) (payloadIn v))
+  fits (Ty.Optional t) depth v = if (eqb (valKind v) 0) fine (fits t depth v)
 
   -- the fields of a record in order (unequal counts, which the record's own check excludes, are BadRecord)
   pub fitsAll : Tys → ℕ → Vals → Answer Unit
@@ -92,6 +93,7 @@ keyBytes (Ty.Ref p) v = encodeTyped (Ty.Ref p) v
 keyBytes (Ty.Record ts) v =
     andThen (ofKind 5 v (if (eqb (fieldCount ts) (valCount (fieldsIn v))) (fitsAll ts 0 (fieldsIn v)) (refused BadRecord 0))) (λ u. ok (valsBytes 0 (fieldsIn v)))
 keyBytes (Ty.Union alts) v = encodeTyped (Ty.Union alts) v
+keyBytes (Ty.Optional t) v = encodeTyped (Ty.Optional t) v
 
 -- a key has at most 65,535 bytes less those of a predicate's id
 abbrev pub predicateIdSize : ℕ

@@ -25,3 +25,4 @@ pub mod Keylist
 pub mod ReferenceSplit
 pub mod Search
 pub mod Ranges
+pub mod Blank

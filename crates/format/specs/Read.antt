@@ -4,7 +4,7 @@ use mathlib.Core.List.{List, [], _∷_}
 use mathlib.Core.Bool.{Bool, false, not}
 use lib.Dec.{ltb, leb, eqb}
 use lib.ListN.{length, take, drop}
-use Rattle.format.specs.Answer.{if, Answer, ok, refused, UnexpectedEof, UnexpectedMark, BadString, BadInteger, Overflow, Underflow, ReservedFactId}
+use Rattle.format.specs.Answer.{if, Answer, ok, refused, UnexpectedEof, UnexpectedMark, UnexpectedTerminator, BadString, BadInteger, Overflow, Underflow, ReservedFactId}
 use Rattle.format.specs.Scalar.{width, sequenceOf}
 use Rattle.format.specs.Utf8.{utf8}
 use Rattle.format.specs.Encode.{fitsRef}
@@ -103,3 +103,11 @@ getRef p bs = marked 0x51 (λ b. thenRead (getBig 8 b) (λ r rest. refRead r res
 -- a reference where no type is at hand: only its sequence is checked
 unfoldable pub getFactId : List ℕ → Read ℕ
 getFactId bs = marked 0x51 (λ b. thenRead (getBig 8 b) (λ r rest. if (eqb (sequenceOf r) 0) (bad ReservedFactId 0) (got r rest))) bs
+
+-- ---- nulls
+
+-- a null behind its 00: inside a group FF follows, or it is UnexpectedTerminator
+abbrev pub nullAt : ℕ → List ℕ → Read Unit
+nullAt depth [] = bad UnexpectedEof 0
+nullAt depth (b ∷ bs) =
+    if (eqb b 0) (if (ltb 0 depth) (if (startsFF bs) (got tt (drop 1 bs)) (bad UnexpectedTerminator 0)) (got tt bs)) (bad UnexpectedMark b)

@@ -20,6 +20,7 @@ unfoldable mutual
   tyWords (Ty.Ref p) = 4 ∷ p ∷ []
   tyWords (Ty.Record ts) = 5 ∷ fieldCount ts ∷ tysWords ts
   tyWords (Ty.Union alts) = 6 ∷ altCount alts ∷ altsWords alts
+  tyWords (Ty.Optional t) = 7 ∷ tyWords t
 
   pub tysWords : Tys → List ℕ
   tysWords Tys.NoTy = []

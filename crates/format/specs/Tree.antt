@@ -11,6 +11,7 @@ mutual
     Ref : ℕ → Ty
     Record : Tys → Ty
     Union : Alts → Ty
+    Optional : Ty → Ty
 
   -- the fields of a record type, in order
   pub data Tys : Type 0 where

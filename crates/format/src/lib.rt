@@ -59,6 +59,9 @@ pub const KIND_RECORD: u32 = 5;
 
 pub const KIND_UNION: u32 = 6;
 
+// Word 7 before a type makes it optional. It is no kind: behind it another stands.
+pub const KIND_OPTIONAL: u32 = 7;
+
 // The kinds on a value sheet, whose words are wider.
 pub const VALUE_NULL: u64 = 0;
 

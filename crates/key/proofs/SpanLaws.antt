@@ -6,7 +6,7 @@ use native.Mathlib.Omega.{arith}
 use lib.ListN.{length, drop, length-append, length-drop}
 use Rattle.format.specs.Tree.{Ty, Tys, Val, Vals}
 use Rattle.format.specs.Sheet.{fieldCount, valCount, tyWords, tysWords}
-use Rattle.format.specs.TypeSheet.{maxGroups, nesting, nestings}
+use Rattle.format.specs.TypeSheet.{maxGroups, nesting, nestings, Single, Singles}
 use Rattle.format.specs.Encode.{valBytes}
 use Rattle.format.specs.Decode.{Decoded, both, decode, decodeBare, decodeKey, whole}
 use Rattle.format.specs.Replace.{fieldAt}
@@ -41,6 +41,12 @@ rest-nest zero ts = omega arith
 rest-nest (suc k) Tys.NoTy = omega arith
 rest-nest (suc k) (Tys.AddTy t ts) = omega (arith, rest-nest k ts)
 
+split-single : (k : ℕ) (ts : Tys) → Singles ts → Singles (firstTys k ts) × Singles (restTys k ts)
+unfolding firstTys restTys Single
+split-single zero ts o = (tt, o)
+split-single (suc k) Tys.NoTy o = (tt, tt)
+split-single (suc k) (Tys.AddTy t ts) o = let m = split-single k ts (o .1) in ((o .0, m .0), m .1)
+
 nest-head : (t : Ty) (us : Tys) → nesting t ≤ nestings (Tys.AddTy t us)
 unfolding nestings
 nest-head t us = omega arith
@@ -51,7 +57,10 @@ placeAt k ts = 2 + length (tysWords (firstTys k ts))
 
 module _ (ty : List ℕ) (ts : Tys) (e k : ℕ) (h : TypesIn ty 2 ts e) where
   spans : TypesIn ty 2 (firstTys k ts) (placeAt k ts) × TypesIn ty (placeAt k ts) (restTys k ts) e
-  spans = parts ty 2 e (tysWords (firstTys k ts)) (tysWords (restTys k ts)) (subst (λ (l : List ℕ). Span ty 2 l e) (split-words k ts) h)
+  spans =
+      let p = parts ty 2 e (tysWords (firstTys k ts)) (tysWords (restTys k ts)) (subst (λ (l : List ℕ). Span ty 2 l e) (split-words k ts) (h .span)) in
+      let o = split-single k ts (h .single) in
+      (record { span = p .0; single = o .0 }, record { span = p .1; single = o .1 })
 
 pub first-fields : {ty : List ℕ} {n k : ℕ} → k ≤ n → FieldsAt ty 2 n → FieldsAt ty 2 k
 first-fields {ty} {n} {k} l f = record {

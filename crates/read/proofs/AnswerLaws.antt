@@ -60,6 +60,22 @@ module _ {A : Type 0} {g : A → Sizes} {bytes : List ℕ} {i : ℕ} {asked : Bo
       }
   good-says (ill h) e = let z : _≡_ {A = ℕ} 0 1 = cc in absurd (omega arith)
 
+  -- under a type of more words
+  pub wider : {r : Walked} {D : Decoded A} {most′ : ℕ} → most ≤ most′ → Walks g bytes i asked end most r D → Walks g bytes i asked end most′ r D
+  wider l (well {words = w} {k = k} h) =
+      well {words = w} {k = k}
+      (record {
+        behind = h .behind;
+        left = h .left;
+        words-are = h .words-are;
+        pool-is = h .pool-is;
+        place = h .place;
+        short = h .short;
+        few = omega (arith, h .few);
+        small = omega (arith, h .small);
+      })
+  wider l (ill {k = k} h) = ill {k = k} (omega arith)
+
   -- sums over an answer are not too large
   pub is-small : {r : Walked} {D : Decoded A} → Walks g bytes i asked end most r D → most < 2 ^ 61 → Small r
   is-small (well h) m = (omega (arith, h .small), omega (arith, h .few))

@@ -98,7 +98,7 @@ module _ {ty : List ℕ} {at n : ℕ} {bytes : List ℕ} {i depth : ℕ} {asked 
             is = ap (λ (x : Tys). fieldsAt depth x (drop i bytes)) q ∙ f .2;
             so =
                 record {
-                  behind = λ y. omega (arith, s y .long);
+                  behind = λ y. omega (arith, s y .span .long);
                   left = refl;
                   words-are = refl;
                   pool-is = refl;
@@ -228,7 +228,7 @@ module _ {ty : List ℕ} {at n : ℕ} {bytes : List ℕ} {i depth : ℕ} {asked 
     pub t-few : b + k ≤ length ty
     t-few =
         let z = field in
-        omega (arith, bad-says (U .value .walk (z .t) (z .end) (z .here) (z .deep)) h .1, U .turned .few (U .some), z .here .long, z .here .within)
+        omega (arith, bad-says (U .value .walk (z .t) (z .end) (z .here) (z .deep)) h .1, U .turned .few (U .some), z .here .span .long, z .here .span .within)
 
   module _ {a1 j1 w1 p1 b1 : ℕ} (h : r ≡ Good a1 j1 w1 p1 b1) where
     said : Says valSizes bytes j (U .one) (field .end) (length (tyWords (field .t))) (decode (field .t) depth (drop j bytes)) a1 j1 w1 p1 b1
@@ -239,7 +239,7 @@ module _ {ty : List ℕ} {at n : ℕ} {bytes : List ℕ} {i depth : ℕ} {asked 
     t-sums =
         let z = field in
         let s = said .so in
-        (omega (arith, U .turned .small (U .some), s .small, z .here .long, z .here .within), omega (arith, U .turned .short, s .short, s .place), omega (arith, U .turned .few (U .some), s .few, z .here .long, z .here .within))
+        (omega (arith, U .turned .small (U .some), s .small, z .here .span .long, z .here .span .within), omega (arith, U .turned .short, s .short, s .place), omega (arith, U .turned .few (U .some), s .few, z .here .span .long, z .here .span .within))
 
     pub t-next : Turned ty at n bytes i depth asked a1 (left - 1) j1 (w + w1) (p + p1) (b + b1)
     t-next =
@@ -249,7 +249,7 @@ module _ {ty : List ℕ} {at n : ℕ} {bytes : List ℕ} {i depth : ℕ} {asked 
           fields = λ l. f-left (U .some) (U .begins) (U .yes) (U .asks) (U .value) h l (U .turned .fields (U .some));
           place = s .place;
           short = omega (arith, U .turned .short, s .short);
-          few = λ l. omega (arith, U .turned .few (U .some), s .few, z .here .long, s .behind (U .asks .0 (omega arith)));
-          small = λ l. omega (arith, U .turned .small (U .some), s .small, z .here .long, s .behind (U .asks .0 (omega arith)));
+          few = λ l. omega (arith, U .turned .few (U .some), s .few, z .here .span .long, s .behind (U .asks .0 (omega arith)));
+          small = λ l. omega (arith, U .turned .small (U .some), s .small, z .here .span .long, s .behind (U .asks .0 (omega arith)));
           so-far = λ q f. subst (FieldWalk ty at n bytes i depth asked) (plus-plus w p b w1 p1 b1 q) (U .turned .so-far _ (f-then (U .some) (U .begins) (U .yes) (U .asks) (U .value) h f));
         }

@@ -31,7 +31,7 @@ module _ {ty bytes : List ℕ} (k : getD ty 0 0 ≡ 5) {r : Walked} (f : FieldWa
   pub k-small : TypeAt ty 0 → length ty < 2 ^ 61 → Small r
   k-small g small =
       let z = record-here (g .t) (g .here) k in
-      is-small (fields (g .t) (g .end) (g .here) (g .deep)) (omega (arith, z .fields .long, z .fields .within))
+      is-small (fields (g .t) (g .end) (g .here) (g .deep)) (omega (arith, z .fields .span .long, z .fields .span .within))
 
   pub k-record : BareWalk ty bytes (plus 2 0 0 r)
   unfolding valPool valWords
@@ -40,5 +40,5 @@ module _ {ty bytes : List ℕ} (k : getD ty 0 0 ≡ 5) {r : Walked} (f : FieldWa
         let z = record-here t s k in
         let meant : readBare t bytes ≡ after 0 Val.Record (decodeBare (z .ts) bytes) = ap (λ (u : Ty). readBare u bytes) (z .is) in
         subst (Walks valSizes bytes 0 false e (length (tyWords t)) (plus 2 0 0 r)) (sym meant)
-        (plus-law Val.Record 2 0 0 (λ vs. (omega arith, sym (zero-add _))) (omega arith) (omega (arith, s .long, z .fields .long)) (omega (arith, s .long, z .fields .long)) (fields t e s deep));
+        (plus-law Val.Record 2 0 0 (λ vs. (omega arith, sym (zero-add _))) (omega arith) (omega (arith, s .span .long, z .fields .span .long)) (omega (arith, s .span .long, z .fields .span .long)) (fields t e s deep));
   }

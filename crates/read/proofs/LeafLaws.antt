@@ -146,7 +146,7 @@ module _ {ty : List ℕ} {at : ℕ} {rest : List ℕ} {i : ℕ} {s : Walked} whe
     walk = λ t e l bytes q inl depth asked.
         let k = is t e l in
         subst (λ (x : ℕ × Ty). Walks valSizes bytes i asked (x .0) (length (tyWords t)) s (decode (x .1) depth rest)) (λ j. (sym (k .1) j, sym (k .0) j))
-        (h .walk bytes q inl depth asked (length (tyWords t)) (omega (arith, l .long, k .1)));
+        (h .walk bytes q inl depth asked (length (tyWords t)) (omega (arith, l .span .long, k .1)));
   }
 
   pub s-int : getD ty at 0 ≡ 1 → LeafWalk Ty.Int rest i (at + 1) s → ScalarWalk ty at rest i s

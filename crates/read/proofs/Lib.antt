@@ -4,4 +4,5 @@ pub mod PlaceLaws
 pub mod LeafLaws
 pub mod FieldLaws
 pub mod ValueLaws
+pub mod BlankLaws
 pub mod KeyLaws

@@ -113,8 +113,8 @@ module _ {ty : List ℕ} {at tag place left : ℕ} (h : Picks ty at tag place le
             count = k .4;
             deep = omega (arith, m .0);
             deeps = omega (arith, m .1);
-            on = omega (arith, s .long);
-            later = omega (arith, k .2 .long, k .3 .long, s .long);
+            on = omega (arith, s .span .long);
+            later = omega (arith, k .2 .span .long, k .3 .span .long, s .span .long);
             meaning = f;
           }
       go none q f k = absurd (nz k)

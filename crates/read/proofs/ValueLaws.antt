@@ -1,4 +1,4 @@
--- Laws of the value walker: one for each way out of it.
+-- Laws of the walker under types that are not optional: one for each way out of it.
 use mathlib.Core.Path.{_≡_, refl, sym, ap, subst, _∙_}
 use mathlib.Core.Bool.{Bool, true}
 use mathlib.Core.List.{List}
@@ -114,9 +114,9 @@ pub record OpenedUnion (ty : List ℕ) (at : ℕ) (bytes : List ℕ) (i depth : 
   pub kind : getD ty at 0 ≡ 6
   pub opening : gotInt o ≡ takenFrom (take (length bytes - i) (drop i bytes)) (unionMark depth (take (length bytes - i) (drop i bytes)))
 
-module _ {ty : List ℕ} {at : ℕ} (bytes : List ℕ) (i depth : ℕ) (g : TypeAt ty at × (i ≤ length bytes)) (few : length ty * 4 < 2 ^ 63) where
+module _ {ty : List ℕ} {at : ℕ} (bytes : List ℕ) (i depth : ℕ) (g : TypeAt ty at × ((i ≤ length bytes) × (getD ty at 0 < 7))) (few : length ty * 4 < 2 ^ 63) where
   begun : At ty at bytes i
-  begun = record { type = g .0; small = omega arith; place = g .1 }
+  begun = record { type = g .0; small = omega arith; place = g .1 .0 }
 
   pub record-opened : getD ty at 0 ≡ 5 → {o : Length} → lengthIn o ≡ endOf (take (length bytes - i) (drop i bytes)) (recordMark depth (take (length bytes - i) (drop i bytes)))
       → OpenedRecord ty at bytes i depth o
@@ -125,14 +125,14 @@ module _ {ty : List ℕ} {at : ℕ} (bytes : List ℕ) (i depth : ℕ) (g : Type
   -- what is neither scalar nor record is a union
   pub union-opened : 5 ≤ getD ty at 0 → (getD ty at 0 ≡ 5 → ⊥) → {o : GotInt} → gotInt o ≡ takenFrom (take (length bytes - i) (drop i bytes)) (unionMark depth (take (length bytes - i) (drop i bytes)))
       → OpenedUnion ty at bytes i depth o
-  union-opened k l h = record { start = begun; kind = omega (arith, kind-here (g .0 .t) (g .0 .here) .2); opening = h }
+  union-opened k l h = record { start = begun; kind = omega (arith, g .1 .1); opening = h }
 
 module _ {ty : List ℕ} {at : ℕ} {bytes : List ℕ} {i depth : ℕ} {o : Length} (G : OpenedRecord ty at bytes i depth o) where
   pub v-record-bad : {asked : Bool} {x d : ℕ} → o ≡ Length.Refused x d → ValueWalk ty at bytes i depth asked (Bad x d 1)
   v-record-bad q = record {
     walk = λ t e s deep.
         let z = record-here t s (G .kind) in
-        refuse (ap (λ (u : Ty). decode u depth (drop i bytes)) (z .is) ∙ record-refused (drop i bytes) depth (rw (part-rest i bytes, q) at (G .opening)) (z .ts)) (omega (arith, s .long, z .fields .long));
+        refuse (ap (λ (u : Ty). decode u depth (drop i bytes)) (z .is) ∙ record-refused (drop i bytes) depth (rw (part-rest i bytes, q) at (G .opening)) (z .ts)) (omega (arith, s .span .long, z .fields .span .long));
   }
 
 -- behind a record's opening
@@ -165,7 +165,7 @@ module _ {ty : List ℕ} {at : ℕ} {bytes : List ℕ} {i depth used : ℕ} (N :
     v-record-small =
         let g = N .opened .start .type in
         let z = record-here (g .t) (g .here) (N .opened .kind) in
-        is-small (fields (g .t) (g .end) (g .here) (g .deep)) (omega (arith, z .fields .long, z .fields .within, N .opened .start .small))
+        is-small (fields (g .t) (g .end) (g .here) (g .deep)) (omega (arith, z .fields .span .long, z .fields .span .within, N .opened .start .small))
 
     pub v-record : ValueWalk ty at bytes i depth asked (plus 2 0 1 r)
     unfolding valPool valWords
@@ -175,7 +175,7 @@ module _ {ty : List ℕ} {at : ℕ} {bytes : List ℕ} {i depth used : ℕ} (N :
           let meant : decode t depth (drop i bytes) ≡ after 1 Val.Record (decodeGroup (z .ts) (depth + 1) (drop (i + used) bytes)) =
           ap (λ (u : Ty). decode u depth (drop i bytes)) (z .is) ∙ opens .reads (z .ts) ∙ ap (λ (l : List ℕ). after 1 Val.Record (decodeGroup (z .ts) (depth + 1) l)) (drop-drop used i bytes) in
           subst (Walks valSizes bytes i asked e (length (tyWords t)) (plus 2 0 1 r)) (sym meant)
-          (plus-law Val.Record 2 0 1 (λ vs. (omega arith, sym (zero-add _))) (omega arith) (omega (arith, s .long, z .fields .long)) (omega (arith, s .long, z .fields .long)) (fields t e s deep));
+          (plus-law Val.Record 2 0 1 (λ vs. (omega arith, sym (zero-add _))) (omega arith) (omega (arith, s .span .long, z .fields .span .long)) (omega (arith, s .span .long, z .fields .span .long)) (fields t e s deep));
     }
 
 module _ {ty : List ℕ} {at : ℕ} {bytes : List ℕ} {i depth : ℕ} {o : GotInt} (G : OpenedUnion ty at bytes i depth o) where
@@ -183,7 +183,7 @@ module _ {ty : List ℕ} {at : ℕ} {bytes : List ℕ} {i depth : ℕ} {o : GotI
   v-union-bad q = record {
     walk = λ t e s deep.
         let z = union-here t s (G .kind) in
-        refuse (ap (λ (u : Ty). decode u depth (drop i bytes)) (z .is) ∙ union-refused (drop i bytes) depth (rw (part-rest i bytes, q) at (G .opening)) (z .us)) (omega (arith, s .long, z .alts .long));
+        refuse (ap (λ (u : Ty). decode u depth (drop i bytes)) (z .is) ∙ union-refused (drop i bytes) depth (rw (part-rest i bytes, q) at (G .opening)) (z .us)) (omega (arith, s .span .long, z .alts .span .long));
   }
 
 -- behind a union's opening, with what the search for its tag found
@@ -204,7 +204,7 @@ module _ {ty : List ℕ} {at : ℕ} {bytes : List ℕ} {i depth tag used place l
         refuse
         (ap (λ (u : Ty). decode u depth (drop i bytes)) (z .is) ∙ inside .reads (z .us)
         ∙ missing (N .picks) (z .us) (subst (λ (u : Ty). TypeIn ty at u e) (z .is) s) (subst (λ (u : Ty). nesting u ≤ maxGroups) (z .is) deep) n depth (drop used (drop i bytes)))
-        (omega (arith, s .long, z .alts .long));
+        (omega (arith, s .span .long, z .alts .span .long));
   }
 
   module _ (nz : place ≡ 0 → ⊥) where
@@ -231,7 +231,7 @@ module _ {ty : List ℕ} {at : ℕ} {bytes : List ℕ} {i depth tag used place l
         v-union-small =
             let g = N .opened .start .type in
             let y = alt (g .t) (g .end) (g .here) (g .deep) in
-            is-small (closed y (payload (g .t) (g .end) (g .here) (g .deep)) C) (omega (arith, y .here .long, y .here .within, N .opened .start .small))
+            is-small (closed y (payload (g .t) (g .end) (g .here) (g .deep)) C) (omega (arith, y .here .span .long, y .here .span .within, N .opened .start .small))
 
         pub v-union : ValueWalk ty at bytes i depth asked (plus 2 0 1 c)
         unfolding valPool valWords
@@ -243,5 +243,5 @@ module _ {ty : List ℕ} {at : ℕ} {bytes : List ℕ} {i depth tag used place l
               ap (λ (u : Ty). decode u depth (drop i bytes)) (z .is) ∙ inside .reads (z .us) ∙ y .meaning depth (drop used (drop i bytes))
               ∙ ap (λ (l : List ℕ). after 1 (Val.Union tag) (unionEnd (decode (y .t) (depth + 1) l))) (drop-drop used i bytes) in
               subst (Walks valSizes bytes i asked e (length (tyWords t)) (plus 2 0 1 c)) (sym meant)
-              (plus-law (Val.Union tag) 2 0 1 (λ u. (omega arith, sym (zero-add _))) (omega arith) (omega (arith, y .on, s .long)) (omega (arith, y .on, s .long)) (closed y (payload t e s deep) C));
+              (plus-law (Val.Union tag) 2 0 1 (λ u. (omega arith, sym (zero-add _))) (omega arith) (omega (arith, y .on, s .span .long)) (omega (arith, y .on, s .span .long)) (closed y (payload t e s deep) C));
         }

@@ -42,7 +42,7 @@ abbrev pub valsSizes : Vals → Sizes
 valsSizes vs = record { words = length (valsWords vs); pool = length (valsPool vs) }
 
 -- a walk from the place i on that ended well: what was read has the sizes s and k values begun, and `rest` is left of the key. A type of `most` words begins no more
--- values than these, of two words each, so no sum is too large. The place in the type is the end where it is asked for.
+-- values than these, of at most two words each, so no sum is too large. The place in the type is the end where it is asked for.
 pub record Well (bytes : List ℕ) (i : ℕ) (asked : Bool) (end most : ℕ) (s : Sizes) (rest : List ℕ) (at next words pool k : ℕ) : Type 0 where
   pub behind : asked ≡ true → at ≡ end
   pub left : drop next bytes ≡ rest

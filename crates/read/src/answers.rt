@@ -1,4 +1,4 @@
-// Answers made: a refusal, a scalar, and what stands around what was read.
+// Answers made: a refusal, a scalar, a blank, and what stands around what was read.
 use crate::Walked;
 ghost use mathlib.Core.Path.{_≡_};
 ghost use Prim.Native.Nat.{_≤_};
@@ -21,6 +21,19 @@ pub fn leaf(at: usize, next: usize, pool: usize) -> Walked
         words: 2,
         pool,
         begun: 1,
+    }
+}
+
+// A blank: one word, nothing of the pool, and one value begun.
+pub fn blank(at: usize, next: usize) -> Walked
+    ensures { λ r. ⌜ r ≡ Good at next 1 0 1 ⌝ }
+{
+    Walked::Good {
+        at,
+        next,
+        words: 1,
+        pool: 0,
+        begun: 1, // blank or filled
     }
 }
 

@@ -1,6 +1,7 @@
-// The value walker and the field-list walker, which call each other: each call is at a later place of the type sheet.
+// The value walkers and the field-list walker, which call each other: a group calls at a later place of the type sheet.
 use crate::Walked;
 use crate::answers::bad;
+use crate::answers::blank;
 use crate::answers::more;
 use crate::groups::close_union;
 use crate::groups::field_refusal;
@@ -8,13 +9,33 @@ use crate::groups::fields_end;
 use crate::leaves::walk_scalar;
 use format::Length;
 use scalar::GotInt;
-ghost use Prim.Native.Nat.{_≤_};
-ghost use lib.ListN.{length};
+ghost use Prim.Native.Nat.{_≤_, _<_};
+ghost use lib.ListN.{length, getD};
 ghost use Rattle.read.specs.Walk.{TypeAt, FieldsAt, ValueWalk, FieldWalk};
 
-// A value under the type at a place of the sheet.
+// A value under the type at a place of the sheet. Under an optional type a null is read; what is none is read as the type behind word 7. The one call of
+// `walk_plain` stands here, so that it is no frame of its own.
 pub fn walk_value(ty: &[u32], at: usize, bytes: &[u8], i: usize, depth: u32, asked: bool) -> Walked
     requires { ⌜ TypeAt (now ty) at ⌝ ∗ ⌜ i ≤ length (now bytes) ⌝ }
+    ensures { λ r. ⌜ ValueWalk (now (ty .entry)) at (now (bytes .entry)) i depth asked r ⌝ }
+{
+    let mut place = at;
+    if ty[at] == format::KIND_OPTIONAL {
+        match scalar::groups::null(&bytes[i..], 0 < depth) {
+            Length::Done(used) => {
+                return blank(sheet::skip_type(ty, at, asked), i + used);
+            }
+            Length::Refused(_, _) => {
+                place = at + 1;
+            }
+        }
+    }
+    walk_plain(ty, place, bytes, i, depth, asked)
+}
+
+// A value under a type that is not optional.
+fn walk_plain(ty: &[u32], at: usize, bytes: &[u8], i: usize, depth: u32, asked: bool) -> Walked
+    requires { ⌜ TypeAt (now ty) at ⌝ ∗ ⌜ (i ≤ length (now bytes)) × (getD (now ty) at 0 < 7) ⌝ }
     ensures { λ r. ⌜ ValueWalk (now (ty .entry)) at (now (bytes .entry)) i depth asked r ⌝ }
 {
     let kind = ty[at];

@@ -1,96 +1,17 @@
-// Runs each example of document 01's table that the whole-value calls can show, and its specimens of nested records and of the longest key.
-use decode::Decoded;
+// Runs each example of document 01's table that the whole-value calls can show, its specimens of nested records and of the longest key, and blank fields.
+mod blanks; // blanks.rt: optional types, and a value's blanks
+mod lines; // lines.rt: a call's answer on a line
+
+use crate::lines::bounds_line;
+use crate::lines::compare_line;
+use crate::lines::decode_key_line;
+use crate::lines::decode_line;
+use crate::lines::encode_line;
+use crate::lines::encoded;
+use crate::lines::key_line;
+use crate::lines::length_line;
+use crate::lines::skip_line;
 use format::Length;
-use key::Bounded;
-use order::Compared;
-
-fn encoded(r: Length, out: &[u8]) {
-    match r {
-        Length::Refused(no, detail) => show::refusal(no, detail),
-        Length::Done(n) => show::line(out, n),
-    }
-}
-
-// A value encoded with room for sixteen bytes.
-fn encode_line(ty: &[u32], words: &[u64], pool: &[u8]) {
-    let mut out = [0u8; 16];
-    let r = encode::encode_typed(ty, words, pool, &mut out);
-    encoded(r, &out);
-}
-
-fn key_line(ty: &[u32], words: &[u64], pool: &[u8]) {
-    let mut out = [0u8; 16];
-    let r = encode::encode_key(ty, words, pool, &mut out);
-    encoded(r, &out);
-}
-
-// The values begun stand behind each answer of decoding.
-fn begun_line(begun: usize) {
-    show::text(b"begun ");
-    show::number(begun as u64);
-    show::text(b"\n");
-}
-
-fn decoded(r: Decoded) {
-    match r {
-        Decoded::Refused { no, detail, begun } => {
-            show::refusal(no, detail);
-            begun_line(begun);
-        }
-        Decoded::Done { words, pool, begun } => {
-            show::text(b"words ");
-            show::number(words as u64);
-            show::text(b" pool ");
-            show::number(pool as u64);
-            show::text(b"\n");
-            begun_line(begun);
-        }
-    }
-}
-
-fn decode_line(ty: &[u32], bytes: &[u8]) {
-    let mut words = [0u64; 8];
-    let mut pool = [0u8; 8];
-    decoded(decode::decode_typed(ty, bytes, &mut words, &mut pool));
-}
-
-fn decode_key_line(ty: &[u32], bytes: &[u8]) {
-    let mut words = [0u64; 8];
-    let mut pool = [0u8; 8];
-    decoded(decode::decode_key(ty, bytes, &mut words, &mut pool));
-}
-
-fn skip_line(bytes: &[u8], start: usize, require_escape_null: bool) {
-    match skip::skip(bytes, start, require_escape_null) {
-        Length::Refused(no, detail) => show::refusal(no, detail),
-        Length::Done(n) => {
-            show::text(b"end ");
-            show::number(n as u64);
-            show::text(b"\n");
-        }
-    }
-}
-
-fn compare_line(a: &[u64], b: &[u64]) {
-    match order::compare(a, b"", b, b"") {
-        Compared::Refused(no, detail) => show::refusal(no, detail),
-        Compared::Less => show::text(b"less\n"),
-        Compared::Equal => show::text(b"equal\n"),
-        Compared::Greater => show::text(b"greater\n"),
-    }
-}
-
-fn bounds_line(ty: &[u32], key: &[u8], k: usize) {
-    let mut lower = [0u8; 8];
-    let mut upper = [0u8; 8];
-    match key::bounds(ty, key, k, &mut lower, &mut upper) {
-        Bounded::Refused(no, detail) => show::refusal(no, detail),
-        Bounded::Done(low, high) => {
-            show::line(&lower, low);
-            show::line(&upper, high);
-        }
-    }
-}
 
 // A field of the key 53 0A 00 49 07 replaced by an integer.
 fn replace_line(field: usize, words: &[u64]) {
@@ -303,17 +224,6 @@ fn fill_words(words: &mut [u64]) {
     }
 }
 
-fn length_line(r: Length) {
-    match r {
-        Length::Refused(no, detail) => show::refusal(no, detail),
-        Length::Done(len) => {
-            show::text(b"bytes ");
-            show::number(len as u64);
-            show::text(b"\n");
-        }
-    }
-}
-
 fn nested(ty: &mut [u32], words: &mut [u64], out: &mut [u8]) {
     fill_type(ty);
     fill_words(words);
@@ -347,4 +257,5 @@ fn main() {
     skipped_fields();
     nested_records();
     longest_key();
+    blanks::blanks();
 }

@@ -18,8 +18,8 @@ the-end w low e r a q h high f =
 
 -- the end that the walk finds is the tree's
 pub end-is : (w : List ℕ) (p e r g : ℕ) (t : Ty) → TypeIn w p t e → nesting t ≤ g → Ends w (p + 1) (typeAt g (drop p w)) r → r ≡ e
-end-is w p e r g t s d h = the-end w (p + 1) e r t (typeAt g (drop p w)) (type-read w p e g t s d) (s .within) h
+end-is w p e r g t s d h = the-end w (p + 1) e r t (typeAt g (drop p w)) (type-read w p e g t s d) (s .span .within) h
 
 pub alts-end-is : (w : List ℕ) (p e r g l : ℕ) (us : Alts) → AltsIn w p us e → altCount us ≡ l → altNestings us ≤ g → Ends w p (alts (typeAt g) l (drop p w)) r → r ≡ e
 alts-end-is w p e r g l us s c d h =
-    the-end w p e r us (alts (typeAt g) l (drop p w)) (ap (λ (n : ℕ). alts (typeAt g) n (drop p w)) (sym c) ∙ alts-read w p e g us s d) (s .within) h
+    the-end w p e r us (alts (typeAt g) l (drop p w)) (ap (λ (n : ℕ). alts (typeAt g) n (drop p w)) (sym c) ∙ alts-read w p e g us s d) (s .span .within) h

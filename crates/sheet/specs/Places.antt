@@ -26,6 +26,10 @@ ValueEnds w b low from Parts.no r q = r ≡ 0
 pub record RunEnds (w b : List ℕ) (at from r q : ℕ) : Type 0 where
   pub ends : (g : ℕ) → ValueEnds w b (at + 1) from (valueAt g (drop at w) (drop from b)) r q
 
+-- r is the end of whatever type stands at p
+pub record SkipsType (w : List ℕ) (p r : ℕ) : Type 0 where
+  pub skips : (t : Ty) (e : ℕ) → TypeIn w p t e → nesting t ≤ maxGroups → r ≡ e
+
 -- r is the end of whatever l alternatives stand at p
 pub record SkipsAlts (w : List ℕ) (p l r : ℕ) : Type 0 where
   pub skips : (us : Alts) (e : ℕ) → AltsIn w p us e → altCount us ≡ l → altNestings us ≤ maxGroups → r ≡ e

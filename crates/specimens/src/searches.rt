@@ -55,7 +55,7 @@ fn ninety_alternatives() {
     dose_lines(&ty);
 }
 
-// The first sheet has a type that opens with word 7, of request U2: it is none before that lands.
+// The first sheet has an optional type among those that are passed.
 fn other_types() {
     show::text(b"alternatives of other types, none, a union inside a record\n");
     search_line(&[6u32, 4, 0, 5, 3, 1, 1, 1, 1, 7, 1, 2, 6, 0, 2, 2], 0, 2);

@@ -1,4 +1,4 @@
-// The ink house's case: tanks whose tags are 0A and 0A 00, alone and inside a record, and integers at a change of width. For each pair it prints
+// The ink house's case: tanks whose tags are 0A and 0A 00, alone and inside a record, integers at a change of width, and recipe lines without a supplier's lot. For each pair it prints
 // both keys, the ends that the bounds call gives for the first one's first field, which of the two keys lies between them, and which would
 // with strinc as the upper end.
 use blocks::Order;
@@ -103,6 +103,52 @@ fn renamed() {
     }
 }
 
+// The lot of a recipe line struck out and written again, in the line's own buffer.
+fn lot_line(buffer: &mut [u8], used: usize, words: &[u64], pool: &[u8]) -> usize {
+    match key::replace(&[5, 2, 7, 3, 1], buffer, used, 0, words, pool) {
+        Length::Refused(no, detail) => {
+            show::refusal(no, detail);
+            used
+        }
+        Length::Done(n) => {
+            show::text(b"  buffer ");
+            show::bytes(buffer, 5);
+            show::text(b" used ");
+            show::number(n as u64);
+            show::text(b"\n");
+            n
+        }
+    }
+}
+
+fn lot_struck_out() {
+    let mut buffer = [0x53, 0x0a, 0, 0x49, 7];
+    let n = lot_line(&mut buffer, 5, &[0], b"");
+    lot_line(&mut buffer, n, &[3, 1], b"\x0a");
+}
+
+// Recipe lines whose lot is blank, beside one whose lot is no bytes.
+fn recipe_lines() {
+    show::text(b"no lot, and a lot of no bytes\n");
+    pair(
+        &[5, 2, 7, 3, 1],
+        &[5, 2, 0, 1, 7],
+        b"",
+        &[5, 2, 3, 0, 1, 7],
+        b"",
+    );
+    show::text(b"no lot, twice\n");
+    pair(
+        &[5, 2, 7, 3, 1],
+        &[5, 2, 0, 1, 7],
+        b"",
+        &[5, 2, 0, 1, 256],
+        b"",
+    );
+    show::text(b"lot 0A struck out and written again\n");
+    lot_struck_out();
+}
+
 fn main() {
     show::text(b"tanks 0A and 0A 00\n");
     pair(
@@ -138,4 +184,5 @@ fn main() {
     );
     show::text(b"tank 0A renamed 0A 00\n");
     renamed();
+    recipe_lines();
 }

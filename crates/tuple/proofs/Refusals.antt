@@ -14,7 +14,7 @@ use Rattle.format.specs.Scalar.{width as intWidth, intBytes, uintBytes, strByte
 use Rattle.format.specs.Utf8.{utf8}
 use Rattle.format.specs.Encode.{nullBytes, valsBytes, maxDepth, maxKeyBytes, fine, ofKind, inUnion, fitsRef, groupAt, fits, fitsAll, fitsUnion, encode, encodeTyped, keyBytes, encodeKey}
 use Rattle.format.specs.Read.{Read, thenRead, getBig, widthIs, getUint, getNeg, getInt, startsFF, endsHere, consRead, getRun, afterZero, marked, getStr, getBytes, refRead, getRef, getFactId}
-use Rattle.format.specs.Decode.{Decoded, scalar, after, both, unionEnd, opened, withTag, decode, decodeGroup, decodeUnion, decodeBare, whole, decodeTyped, decodeKey}
+use Rattle.format.specs.Decode.{Decoded, scalar, after, both, unionEnd, opened, withTag, blankOr, decode, decodeGroup, decodeUnion, decodeBare, whole, decodeTyped, decodeKey}
 use Rattle.format.specs.Skip.{passBytes, passField, turn, walk, skip, endOf, skipFrom}
 use Rattle.format.specs.Order.{cmpVal}
 use Rattle.format.specs.Bounds.{raisedOr, trimmed, strinc, aboveField, firstBytes}
@@ -159,6 +159,10 @@ tags : {A : Type 0} (depth : ℕ) (m : Read ℕ) (f : ℕ → List ℕ → Decod
 tags depth (Read.bad n d) f p q = p
 tags depth (Read.got t r) f p q = decodes-if (ltb depth maxDepth) _ _ (q t r) (listed tt tt)
 
+blanks : (m : Read Unit) (d : Decoded Val) → Decodes d → Decodes (blankOr m d)
+blanks (Read.got u rest) d p = tt
+blanks (Read.bad n k) d p = p
+
 mutual
   unfolding decode
 
@@ -170,6 +174,7 @@ mutual
   decodes (Ty.Record ts) depth bs =
       opens 0x22 _ bs (λ r. decodes-if (ltb depth maxDepth) _ _ (afters 1 Val.Record (decodeGroup ts (depth + 1) r) (group ts (depth + 1) r)) (listed tt tt))
   decodes (Ty.Union alts) depth bs = opens 0x52 _ bs (λ r. tags depth (getUint r) _ (uint r) (λ t more. union alts depth t more))
+  decodes (Ty.Optional t) depth bs = blanks (nullAt depth bs) (decode t depth bs) (decodes t depth bs)
 
   group : (ts : Tys) (depth : ℕ) (bs : List ℕ) → Decodes (decodeGroup ts depth bs)
   group Tys.NoTy depth [] = listed tt tt
@@ -202,6 +207,7 @@ key Ty.Bytes bs = wholes _ (decodes Ty.Bytes 0 bs)
 key (Ty.Ref p) bs = wholes _ (decodes (Ty.Ref p) 0 bs)
 key (Ty.Record ts) bs = wholes _ (afters 0 Val.Record (decodeBare ts bs) (bare ts bs))
 key (Ty.Union alts) bs = wholes _ (decodes (Ty.Union alts) 0 bs)
+key (Ty.Optional t) bs = wholes _ (decodes (Ty.Optional t) 0 bs)
 
 -- ---- encoding
 
@@ -226,6 +232,7 @@ mutual
   fitting (Ty.Ref p) depth v = kinds 4 v (fitsRef p (numberIn v)) (fits-ref p (numberIn v))
   fitting (Ty.Record ts) depth v = kinds 5 v _ (numbered-if (eqb (fieldCount ts) (valCount (fieldsIn v))) _ _ (groups depth (fitsAll ts (depth + 1) (fieldsIn v)) (fittingAll ts (depth + 1) (fieldsIn v))) (listed tt tt))
   fitting (Ty.Union alts) depth v = kinds 6 v _ (fittingUnion alts depth (numberIn v) (payloadIn v))
+  fitting (Ty.Optional t) depth v = numbered-if (eqb (valKind v) 0) fine (fits t depth v) tt (fitting t depth v)
 
   fittingAll : (ts : Tys) (depth : ℕ) (vs : Vals) → Numbered (fitsAll ts depth vs)
   fittingAll Tys.NoTy depth Vals.NoVal = tt
@@ -254,6 +261,7 @@ key-bytes (Ty.Record ts) v =
     (kinds 5 v counted (numbered-if (eqb (fieldCount ts) (valCount (fieldsIn v))) (fitsAll ts 0 (fieldsIn v)) (refused BadRecord 0) (fittingAll ts 0 (fieldsIn v)) (listed tt tt)))
     (λ u. tt)
 key-bytes (Ty.Union alts) v = encodes (Ty.Union alts) v
+key-bytes (Ty.Optional t) v = encodes (Ty.Optional t) v
 
 encodes-key : (t : Ty) (v : Val) → Numbered (encodeKey t v)
 unfolding encodeKey
@@ -344,6 +352,7 @@ fields-of Ty.Bytes f p = listed tt tt
 fields-of (Ty.Ref n) f p = listed tt tt
 fields-of (Ty.Record ts) f p = p ts
 fields-of (Ty.Union alts) f p = listed tt tt
+fields-of (Ty.Optional t) f p = listed tt tt
 
 keyed : {A : Type 0} (m : Decoded Val) (f : Vals → Answer A) → Decodes m → ((vs : Vals) → Numbered (f vs)) → Numbered (withKey m f)
 keyed (Decoded.got v r k) f p q = q (fieldsIn v)

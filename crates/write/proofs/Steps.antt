@@ -1,17 +1,17 @@
 -- What is written of a value, by its kind, and of values one after another.
 use mathlib.Core.Path.{_≡_, refl, sym, ap, _∙_}
 use mathlib.Core.List.{List, [], _∷_, _++_}
-use Prim.Native.Nat.{ℕ, zero, suc, _+_, _-_, _≤_, _<_}
+use Prim.Native.Nat.{ℕ, _+_, _-_, _≤_, _<_}
 use native.Mathlib.Omega.{arith}
 use lib.ListN.{length, getD, take, drop, length-append}
 use lib.Seq.{slice, take-add, drop-at, length-take-le}
-use Rattle.format.specs.Tree.{Ty, Tys, Val, Vals, valKind}
-use Rattle.format.specs.Sheet.{valCount, valsWords, valsPool}
+use Rattle.format.specs.Tree.{Tys, Val, Vals, valKind}
+use Rattle.format.specs.Sheet.{valWords, valPool, valCount, valsWords, valsPool}
 use Rattle.format.specs.ValueSheet.{Proper, AllProper}
-use Rattle.format.specs.Encode.{valBytes, valsBytes, fits, fitsAll, fine}
+use Rattle.format.specs.Encode.{nullBytes, valBytes, valsBytes, fits, fitsAll, fine}
 use Rattle.format.proofs.ValuePlaces.{ValueIn, ValuesIn, wordOf, kind-is, word-is, field-in}
-use Rattle.format.proofs.KindLaws.{built}
-use Rattle.format.proofs.FitLaws.{of-value, clash, no-null, both-fit}
+use Rattle.format.proofs.KindLaws.{is-null}
+use Rattle.format.proofs.FitLaws.{clash, both-fit}
 use Rattle.format.proofs.PlainLaws.{plainPool, plainBytes, Plain, plain}
 use Rattle.blocks.proofs.Put.{put-none, put-then}
 use Rattle.write.specs.declared.Put.{Put}
@@ -26,50 +26,51 @@ lent p m b h =
     let n : p + m - p ≡ m = omega arith in
     sym (rw (n, take-add p m b) (drop-at (take p b) (take m (drop p b)) p (length-take-le p b (omega arith))))
 
--- no type takes Null, so any other value has two words
-some-kind : (t : Ty) (depth : ℕ) (v : Val) → fits t depth v ≡ fine → valKind v ≡ 0 → ⊥
-unfolding built
-some-kind t depth v fit z = of-value (λ (u : Val). fits t depth u ≡ fine → ⊥) 0 v z (no-null t depth) fit
-
--- the kind and the second word of what stands there
-record Numbers (k x : ℕ) (v : Val) : Type 0 where
-  pub kind : valKind v ≡ k
-  pub word : wordOf v ≡ x
-  pub some : 0 < k
-
-numbers : (words pool : List ℕ) (w p : ℕ) {k x : ℕ} → k ≡ getD words w 0 → x ≡ getD words (w + 1) 0 → (t : Ty) (depth : ℕ) (v : Val) {e f : ℕ} → fits t depth v ≡ fine → ValueIn words pool w p v e f → Numbers k x v
-numbers words pool w p {k} kw kx t depth v {e} {f} fit i =
-    let z = some-kind t depth v fit in
-    let q : valKind v ≡ k = sym (kind-is words pool w p e f v i .1) ∙ sym kw in
-    record { kind = q; word = sym (word-is words pool w p e f v i z .1) ∙ sym kx; some = pos k (λ n. z (q ∙ n)) }
-  where
-    pos : (n : ℕ) → (n ≡ 0 → ⊥) → 0 < n
-    pos zero h = absurd (h refl)
-    pos (suc n) h = omega arith
+-- the kind and the second word of what stands there and is no blank
+numbers : (words pool : List ℕ) (w p : ℕ) {k x : ℕ} → k ≡ getD words w 0 → (k ≡ 0 → ⊥) → x ≡ getD words (w + 1) 0 → (v : Val) {e f : ℕ} → ValueIn words pool w p v e f → (valKind v ≡ k) × (wordOf v ≡ x)
+numbers words pool w p kw some kx v {e} {f} i =
+    let q = sym (kind-is words pool w p e f v i .1) ∙ sym kw in
+    (q, sym (word-is words pool w p e f v i (λ z. some (sym q ∙ z)) .1) ∙ sym kx)
 
 module _ {words pool : List ℕ} {s : Put} {depth : ℕ} {l : List ℕ} (a : Ready words pool l s depth) where
   -- no value stands here, and the walk stays
-  stays : ((t : Ty) (v : Val) (e f : ℕ) → fits t depth v ≡ fine → ValueIn words pool (s .word) (s .pool) v e f → ⊥) → WroteValue words pool s depth l s l
+  stays : ((v : Val) (e f : ℕ) → ValueIn words pool (s .word) (s .pool) v e f → ⊥) → WroteValue words pool s depth l s l
   stays h =
       record {
         onward = record { on = omega arith; word-in = a .word-in; pool-in = a .pool-in; at-in = a .at-in; kept = refl };
-        says = record { one = λ t v e f fit ok i room. absurd (h t v e f fit i) };
+        says = record { one = λ t v e f fit ok i room. absurd (h v e f i) };
       }
 
   pub past : length words ≤ s .word → WroteValue words pool s depth l s l
-  past h = stays (λ t v e f fit i. omega (arith, kind-is words pool (s .word) (s .pool) e f v i .0))
+  past h = stays (λ v e f i. omega (arith, kind-is words pool (s .word) (s .pool) e f v i .0))
 
-  pub short : length words - s .word < 2 → WroteValue words pool s depth l s l
-  short h = stays (λ t v e f fit i. omega (arith, word-is words pool (s .word) (s .pool) e f v i (some-kind t depth v fit) .0))
+  -- a blank
+  pub wrote-null : {b : ℕ} {l′ : List ℕ} → s .word < length words → getD words (s .word) 0 ≡ 0 → Stored l (s .at) (nullBytes depth) b l′ → WroteValue words pool s depth l (standing (s .word + 1) (s .pool) b) l′
+  unfolding valWords valPool valBytes
+  wrote-null h z st =
+      record {
+        onward = record { on = omega arith; word-in = omega arith; pool-in = a .pool-in; at-in = st .inside; kept = st .kept };
+        says = record {
+          one = λ t v e f fit ok i room.
+              let q = is-null v (sym (kind-is words pool (s .word) (s .pool) e f v i .1) ∙ z) in
+              let j = rw q at i in
+              let g = st .right (rw q at room) in
+              rw q (record { at-word = sym (j .words .long); at-pool = omega (arith, j .pool .long); at-byte = g .0; wrote = g .1 });
+        };
+      }
 
-  module _ {k x : ℕ} (two : 2 ≤ length words - s .word) (kw : k ≡ getD words (s .word) 0) (kx : x ≡ getD words (s .word + 1) 0) where
-    plain-here : k < 5 → (t : Ty) (v : Val) {e f : ℕ} → fits t depth v ≡ fine → ValueIn words pool (s .word) (s .pool) v e f → Plain pool (s .word) (s .pool) e f k x depth v
-    plain-here low t v {e} {f} fit i =
-        let n = numbers words pool (s .word) (s .pool) kw kx t depth v fit i in
-        plain words pool (s .word) (s .pool) e f k x depth v (n .kind) (n .word) (n .some) low i
+  -- no blank, and the sheet ends behind its kind
+  pub short : (getD words (s .word) 0 ≡ 0 → ⊥) → length words - s .word < 2 → WroteValue words pool s depth l s l
+  short some h = stays (λ v e f i. omega (arith, word-is words pool (s .word) (s .pool) e f v i (λ z. some (kind-is words pool (s .word) (s .pool) e f v i .1 ∙ z)) .0))
+
+  module _ {k x : ℕ} (two : 2 ≤ length words - s .word) (kw : k ≡ getD words (s .word) 0) (some : k ≡ 0 → ⊥) (kx : x ≡ getD words (s .word + 1) 0) where
+    plain-here : k < 5 → (v : Val) {e f : ℕ} → ValueIn words pool (s .word) (s .pool) v e f → Plain pool (s .word) (s .pool) e f k x depth v
+    plain-here low v {e} {f} i =
+        let n = numbers words pool (s .word) (s .pool) kw some kx v i in
+        plain words pool (s .word) (s .pool) e f k x depth v (n .0) (n .1) (omega arith) low i
 
     pub too-long : k < 5 → length pool - s .pool < plainPool k x → WroteValue words pool s depth l s l
-    too-long low h = stays (λ t v e f fit i. let q = plain-here low t v fit i in omega (arith, q .pool-ends, q .pool-in))
+    too-long low h = stays (λ v e f i. let q = plain-here low v i in omega (arith, q .pool-ends, q .pool-in))
 
     pub wrote-plain : {m b : ℕ} {l′ : List ℕ} → k < 5 → m ≡ plainPool k x → m ≤ length pool - s .pool → Stored l (s .at) (plainBytes k x (take (s .pool + m - s .pool) (drop (s .pool) pool))) b l′
         → WroteValue words pool s depth l (standing (s .word + 2) (s .pool + m) b) l′
@@ -79,7 +80,7 @@ module _ {words pool : List ℕ} {s : Put} {depth : ℕ} {l : List ℕ} (a : Rea
           onward = record { on = omega arith; word-in = omega (arith, a .word-in); pool-in = omega (arith, a .pool-in); at-in = st .inside; kept = st .kept };
           says = record {
             one = λ t v e f fit ok i room.
-                let q = plain-here low t v fit i in
+                let q = plain-here low v i in
                 let b : valBytes depth v ≡ plainBytes k x (slice (s .pool) (s .pool + m) pool) = q .bytes ∙ ap (λ (y : ℕ). plainBytes k x (slice (s .pool) (s .pool + y) pool)) (sym j) in
                 let g = st .right (rw b at room) in
                 record { at-word = sym (q .ends); at-pool = omega (arith, q .pool-ends); at-byte = rw b (g .0); wrote = rw b (g .1) };
@@ -95,8 +96,8 @@ module _ {words pool : List ℕ} {s : Put} {depth : ℕ} {l : List ℕ} (a : Rea
           onward = record { on = omega (arith, o .on); word-in = o .word-in; pool-in = o .pool-in; at-in = omega (arith, en .inside, o .kept, st .kept); kept = en .kept ∙ o .kept ∙ st .kept };
           says = record {
             one = λ t v e f fit ok h room.
-                let n = numbers words pool (s .word) (s .pool) kw kx t depth v fit h in
-                let q = group words pool (s .word) (s .pool) e f depth t v (n .kind) (n .word) up fit ok h in
+                let n = numbers words pool (s .word) (s .pool) kw some kx v h in
+                let q = group words pool (s .word) (s .pool) e f depth t v (n .0) (n .1) up fit ok h in
                 let begin = groupBytes k x in
                 let inner = valsBytes (depth + 1) (q .inside) in
                 let n1 = length-append begin (inner ++ 0 ∷ []) in

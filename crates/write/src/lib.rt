@@ -5,6 +5,7 @@ ghost use Prim.Native.Nat.{_≤_};
 ghost use lib.Dec.{leb};
 ghost use lib.ListN.{length};
 ghost use Rattle.format.specs.Scalar.{intBytes, refBytes, tagBytes, escaped};
+ghost use Rattle.format.specs.Encode.{nullBytes};
 ghost use Rattle.format.proofs.PlainLaws.{plainPool, plainBytes};
 ghost use Rattle.write.specs.Write.{standing, groupCount, groupBytes, Stored, Ready, WroteValue, WroteFields};
 
@@ -32,6 +33,18 @@ fn put_byte(out: &mut [u8], at: usize, b: u8) -> usize
         return at + 1;
     }
     at
+}
+
+// A null, where there is room: inside a group with its escape.
+fn put_null(out: &mut [u8], at: usize, depth: usize) -> usize
+    requires { ⌜ at ≤ length (now out) ⌝ }
+    ensures { λ r. ⌜ Stored (now (out .entry)) at (nullBytes depth) r (now (out .exit)) ⌝ }
+{
+    let end = put_byte(out, at, format::MARK_NULL);
+    if 0 < depth {
+        return put_byte(out, end, format::MARK_ESCAPE);
+    }
+    end
 }
 
 // An integer, where there is room.
@@ -144,7 +157,7 @@ fn open_group(out: &mut [u8], at: usize, kind: u64, x: u64) -> usize
     at
 }
 
-// A value that stands at a depth. Its kind says how many words it has.
+// A value that stands at a depth. Its kind says how many words it has: a blank one, so it may be the sheet's last word.
 pub fn put_value(
     words: &[u64],
     pool: &[u8],
@@ -161,6 +174,10 @@ pub fn put_value(
         return stand(word, from, at);
     }
     let kind = words[word];
+    if kind == format::VALUE_NULL {
+        let end = put_null(out, at, depth);
+        return stand(word + 1, from, end);
+    }
     if words.len() - word < 2 {
         return stand(word, from, at);
     }

@@ -18,6 +18,7 @@ use Rattle.write.proofs.+put_fields+put_value.Lts-put_value as put-valu
 use Rattle.write.proofs.count_of.Reads as count-of-reads
 use Rattle.write.proofs.open_group.Reads as open-group-reads
 use Rattle.write.proofs.put_byte.Reads as put-byte-reads
+use Rattle.write.proofs.put_null.Reads as put-null-reads
 use Rattle.write.proofs.put_scalar.Reads as put-scalar-reads
 use Rattle.write.proofs.run_of.Reads as run-of-reads
 use Rattle.write.proofs.stand.Reads as stand-reads
@@ -96,6 +97,8 @@ abbrev put-value-claims : ℕ → put-value-lts.Claims
 put-value-claims t = (
   stand-reads.Asked,
   stand-reads.Learnt,
+  put-null-reads.Asked,
+  put-null-reads.Learnt,
   run-of-reads.Asked,
   run-of-reads.Learnt,
   put-scalar-reads.Asked,
@@ -127,17 +130,37 @@ put-value-mul-kind t c = search needs
 put-value-shared-slice-read-kind : put-value-need put-value-lts.Need-shared-slice-read-kind
 put-value-shared-slice-read-kind t c = search needs
 
-put-value-sub-if2 : put-value-need put-value-lts.Need-sub-if2
-put-value-sub-if2 t c = search needs
+put-value-put-null-requires : put-value-need put-value-lts.Need-put-null-requires
+put-value-put-null-requires t c κs = search needs
+
+put-value-add-stand : put-value-need put-value-lts.Need-add-stand
+put-value-add-stand t c = search needs
 
 put-value-stand-requires-2 : put-value-need put-value-lts.Need-stand-requires-2
 put-value-stand-requires-2 t c κs = search needs
 
+put-value-same-length : put-value-need put-value-lts.Need-same-length
+put-value-same-length t c = search needs
+
 put-value-returns-2 : put-value-need put-value-lts.Need-returns-2
 put-value-returns-2 t c =
+    let n = c .before .before .before in
+    let i = n .before .before in
+    let l = i .before .before in
+    rw (c .stand2 .ensures) (laws.wrote-null (l .before .before .before .before .pre .1) (l .if1 .left) (i .if2 .taken) (n .put-null .ensures))
+
+put-value-sub-if3 : put-value-need put-value-lts.Need-sub-if3
+put-value-sub-if3 t c = search needs
+
+put-value-stand-requires-3 : put-value-need put-value-lts.Need-stand-requires-3
+put-value-stand-requires-3 t c κs = search needs
+
+put-value-returns-3 : put-value-need put-value-lts.Need-returns-3
+put-value-returns-3 t c =
     let i = c .before in
-    let s = i .before .before .before .before .before .before in
-    rw (c .stand2 .ensures) (laws.short (s .pre .1) (i .if2 .taken))
+    let n = i .before in
+    let s = n .before .before .before .before .before .before in
+    rw (c .stand3 .ensures) (laws.short (s .pre .1) (n .if2 .left) (i .if3 .taken))
 
 put-value-add-x : put-value-need put-value-lts.Need-add-x
 put-value-add-x t c = search needs
@@ -154,18 +177,20 @@ put-value-add-next t c = search needs
 put-value-run-of-requires : put-value-need put-value-lts.Need-run-of-requires
 put-value-run-of-requires t c κs = search needs
 
-put-value-sub-if4 : put-value-need put-value-lts.Need-sub-if4
-put-value-sub-if4 t c = search needs
+put-value-sub-if5 : put-value-need put-value-lts.Need-sub-if5
+put-value-sub-if5 t c = search needs
 
-put-value-stand-requires-3 : put-value-need put-value-lts.Need-stand-requires-3
-put-value-stand-requires-3 t c κs = search needs
+put-value-stand-requires-4 : put-value-need put-value-lts.Need-stand-requires-4
+put-value-stand-requires-4 t c κs = search needs
 
-put-value-returns-3 : put-value-need put-value-lts.Need-returns-3
-put-value-returns-3 t c =
+put-value-returns-4 : put-value-need put-value-lts.Need-returns-4
+put-value-returns-4 t c =
     let r = c .before .before in
     let i = r .before in
-    let s = i .before .before .before .before .before .before .before .before in
-    rw (c .stand3 .ensures) (laws.too-long (s .pre .1) (i .before .before .if2 .left) refl refl (i .if3 .taken) (rw (r .run-of .ensures) at (c .before .if4 .taken)))
+    let l = i .before .before in
+    let n = l .before in
+    let s = n .before .before .before .before .before .before in
+    rw (c .stand4 .ensures) (laws.too-long (s .pre .1) (l .if3 .left) refl (n .if2 .left) refl (i .if4 .taken) (rw (r .run-of .ensures) at (c .before .if5 .taken)))
 
 put-value-add-behind : put-value-need put-value-lts.Need-add-behind
 put-value-add-behind t c = search needs
@@ -182,19 +207,21 @@ put-value-part-put-scalar-end t c = search needs
 put-value-put-scalar-requires : put-value-need put-value-lts.Need-put-scalar-requires
 put-value-put-scalar-requires t c κs = search needs
 
-put-value-stand-requires-4 : put-value-need put-value-lts.Need-stand-requires-4
-put-value-stand-requires-4 t c κs = search needs
+put-value-stand-requires-5 : put-value-need put-value-lts.Need-stand-requires-5
+put-value-stand-requires-5 t c κs = search needs
 
-put-value-same-length : put-value-need put-value-lts.Need-same-length
-put-value-same-length t c = c .before .before .before .put-scalar .ensures .kept
+put-value-same-length-2 : put-value-need put-value-lts.Need-same-length-2
+put-value-same-length-2 t c = c .before .before .before .put-scalar .ensures .kept
 
-put-value-returns-4 : put-value-need put-value-lts.Need-returns-4
-put-value-returns-4 t c =
+put-value-returns-5 : put-value-need put-value-lts.Need-returns-5
+put-value-returns-5 t c =
     let p = c .before .before .before in
     let i = p .before .before .before in
     let j = i .before .before in
-    let s = j .before .before .before .before .before .before .before .before in
-    rw (c .stand4 .ensures) (laws.wrote-plain (s .pre .1) (j .before .before .if2 .left) refl refl (j .if3 .taken) (i .before .run-of .ensures) (i .if4 .left) (p .put-scalar .ensures))
+    let l = j .before .before in
+    let n = l .before in
+    let s = n .before .before .before .before .before .before in
+    rw (c .stand5 .ensures) (laws.wrote-plain (s .pre .1) (l .if3 .left) refl (n .if2 .left) refl (j .if4 .taken) (i .before .run-of .ensures) (i .if5 .left) (p .put-scalar .ensures))
 
 put-value-open-group-requires : put-value-need put-value-lts.Need-open-group-requires
 put-value-open-group-requires t c κs = search needs
@@ -211,20 +238,22 @@ put-value-put-fields-requires t c κs = search needs
 put-value-put-byte-requires : put-value-need put-value-lts.Need-put-byte-requires
 put-value-put-byte-requires t c κs = search needs
 
-put-value-stand-requires-5 : put-value-need put-value-lts.Need-stand-requires-5
-put-value-stand-requires-5 t c κs = search needs
+put-value-stand-requires-6 : put-value-need put-value-lts.Need-stand-requires-6
+put-value-stand-requires-6 t c κs = search needs
 
-put-value-same-length-2 : put-value-need put-value-lts.Need-same-length-2
-put-value-same-length-2 t c = search needs
+put-value-same-length-3 : put-value-need put-value-lts.Need-same-length-3
+put-value-same-length-3 t c = search needs
 
-put-value-returns-5 : put-value-need put-value-lts.Need-returns-5
-put-value-returns-5 t c =
+put-value-returns-6 : put-value-need put-value-lts.Need-returns-6
+put-value-returns-6 t c =
     let b = c .before .before .before in
     let r = b .before .before .before .before in
     let o = r .before .before .before .before .before in
     let i = o .before .before in
-    let s = i .before .before .before .before .before .before .before .before in
-    rw (c .stand5 .ensures) (laws.wrote-group (s .pre .1) (i .before .before .if2 .left) refl refl (i .if3 .left) (o .open-group .ensures) (rw (r .before .before .count-of .ensures) at (r .put-fields .ensures)) (b .put-byte .ensures))
+    let l = i .before .before in
+    let n = l .before in
+    let s = n .before .before .before .before .before .before in
+    rw (c .stand6 .ensures) (laws.wrote-group (s .pre .1) (l .if3 .left) refl (n .if2 .left) refl (i .if4 .left) (o .open-group .ensures) (rw (r .before .before .count-of .ensures) at (r .put-fields .ensures)) (b .put-byte .ensures))
 
 pub +put-fields+put-value-spec : {M : Type 1} → statement M
 +put-fields+put-value-spec = close μ-put-fields μ-put-value (λ t. put-fields-lts.spec (put-fields-claims t)
@@ -247,30 +276,35 @@ pub +put-fields+put-value-spec : {M : Type 1} → statement M
     (put-value-returns t)
     (put-value-mul-kind t)
     (put-value-shared-slice-read-kind t)
-    (put-value-sub-if2 t)
+    (put-value-put-null-requires t)
+    (put-value-add-stand t)
     (put-value-stand-requires-2 t)
+    (put-value-same-length t)
     (put-value-returns-2 t)
+    (put-value-sub-if3 t)
+    (put-value-stand-requires-3 t)
+    (put-value-returns-3 t)
     (put-value-add-x t)
     (put-value-mul-x t)
     (put-value-shared-slice-read-x t)
     (put-value-add-next t)
     (put-value-run-of-requires t)
-    (put-value-sub-if4 t)
-    (put-value-stand-requires-3 t)
-    (put-value-returns-3 t)
+    (put-value-sub-if5 t)
+    (put-value-stand-requires-4 t)
+    (put-value-returns-4 t)
     (put-value-add-behind t)
     (put-value-sub-put-scalar t)
     (put-value-part-put-scalar-start t)
     (put-value-part-put-scalar-end t)
     (put-value-put-scalar-requires t)
-    (put-value-stand-requires-4 t)
-    (put-value-same-length t)
-    (put-value-returns-4 t)
+    (put-value-stand-requires-5 t)
+    (put-value-same-length-2 t)
+    (put-value-returns-5 t)
     (put-value-open-group-requires t)
     (put-value-count-of-requires t)
     (put-value-add-put-fields t)
     (put-value-put-fields-requires t)
     (put-value-put-byte-requires t)
-    (put-value-stand-requires-5 t)
-    (put-value-same-length-2 t)
-    (put-value-returns-5 t)
+    (put-value-stand-requires-6 t)
+    (put-value-same-length-3 t)
+    (put-value-returns-6 t)

@@ -21,6 +21,7 @@ use Rattle.fill.proofs.groups.behind.Reads as behind-reads
 use Rattle.fill.proofs.groups.fields_end.Reads as fields-end-reads
 use Rattle.fill.proofs.groups.opens_group.Reads as opens-group-reads
 use Rattle.fill.proofs.leaves.fill_leaf.Reads as fill-leaf-reads
+use Rattle.fill.proofs.leaves.fill_null.Reads as fill-null-reads
 use Rattle.fill.proofs.leaves.fill_uint.Reads as fill-uint-reads
 use Rattle.fill.proofs.leaves.pool_taken.Reads as pool-taken-reads
 use Rattle.fill.proofs.leaves.put_pair.Reads as put-pair-reads
@@ -55,6 +56,8 @@ abbrev fill-fields-claims : ℕ → fill-fields-lts.Claims
 fill-fields-claims t = (
   fields-end-reads.Asked,
   fields-end-reads.Learnt,
+  fill-null-reads.Asked,
+  fill-null-reads.Learnt,
   opens-group-reads.Asked,
   opens-group-reads.Learnt,
   fill-group-below t,
@@ -89,8 +92,25 @@ fill-fields-shared-slice-read-mark t c =
     let s = l .before .before .before .before in
     laws.goes-on (s .args .bytes .now) (l .loop .j) (s .args .depth) (sym (not-true _ (i .if1 .taken)) ∙ f .fields-end .ensures)
 
-fill-fields-sub-if2 : fill-fields-need fill-fields-lts.Need-sub-if2
-fill-fields-sub-if2 t c = search needs
+fill-fields-fill-null-requires : fill-fields-need fill-fields-lts.Need-fill-null-requires
+fill-fields-fill-null-requires t c κs = search needs
+
+fill-fields-add-j : fill-fields-need fill-fields-lts.Need-add-j
+fill-fields-add-j t c =
+    let r = c .before .before in
+    let b = r .before .before .before in
+    let i = b .before .before in
+    let f = i .before in
+    let l = f .before in
+    let s = l .before .before .before .before in
+    let on = sym (not-true _ (i .if1 .taken)) ∙ f .fields-end .ensures in
+    omega (arith, r .fill-null .ensures .0, laws.null-long (s .args .bytes .now) (l .loop .j) (s .args .depth) on (b .if2 .taken) .1)
+
+fill-fields-add-w1 : fill-fields-need fill-fields-lts.Need-add-w1
+fill-fields-add-w1 t c = search needs
+
+fill-fields-sub-if4 : fill-fields-need fill-fields-lts.Need-sub-if4
+fill-fields-sub-if4 t c = search needs
 
 fill-fields-opens-group-requires : fill-fields-need fill-fields-lts.Need-opens-group-requires
 fill-fields-opens-group-requires t c κs = search needs
@@ -98,24 +118,26 @@ fill-fields-opens-group-requires t c κs = search needs
 fill-fields-fill-group-requires : fill-fields-need fill-fields-lts.Need-fill-group-requires
 fill-fields-fill-group-requires t c κs =
     let g = c .before .before in
-    let i = g .before .before .before .before in
+    let r = g .before .before in
+    let i = r .before .before .before in
     let f = i .before in
     let l = f .before in
     let s = l .before .before .before .before in
     let on = laws.goes-on (s .args .bytes .now) (l .loop .j) (s .args .depth) (sym (not-true _ (i .if1 .taken)) ∙ f .fields-end .ensures) in
     let inv = l .loop .inv in
-    (omega (arith, s .pre .0, inv .onward .on), (laws.passing-ready inv (s .pre .1 .deep), (on, omega (arith, g .before .before .if2 .left), sym (g .before .opens-group .ensures) ∙ g .if3 .taken)))
+    (omega (arith, s .pre .0, inv .onward .on), (laws.passing-ready inv (s .pre .1 .deep), (on, omega (arith, r .if4 .left), sym (g .before .opens-group .ensures) ∙ g .if5 .taken)))
 
 fill-fields-fill-leaf-requires : fill-fields-need fill-fields-lts.Need-fill-leaf-requires
 fill-fields-fill-leaf-requires t c κs =
     let g = c .before .before in
-    let i = g .before .before .before .before in
+    let r = g .before .before in
+    let i = r .before .before .before in
     let f = i .before in
     let l = f .before in
     let s = l .before .before .before .before in
     let on = laws.goes-on (s .args .bytes .now) (l .loop .j) (s .args .depth) (sym (not-true _ (i .if1 .taken)) ∙ f .fields-end .ensures) in
     let inv = l .loop .inv in
-    (on, omega (arith, g .before .before .if2 .left), omega (arith, inv .onward .pool-in, inv .onward .kept-pool), sym (g .before .opens-group .ensures) ∙ g .if3 .left)
+    (on, omega (arith, r .if4 .left), omega (arith, inv .onward .pool-in, inv .onward .kept-pool), omega (arith, r .before .if2 .left), sym (g .before .opens-group .ensures) ∙ g .if5 .left)
 
 fill-fields-add-pool-taken : fill-fields-need fill-fields-lts.Need-add-pool-taken
 fill-fields-add-pool-taken t c = search needs
@@ -132,12 +154,12 @@ fill-fields-pool-taken-requires t c κs = search needs
 fill-fields-add-p1 : fill-fields-need fill-fields-lts.Need-add-p1
 fill-fields-add-p1 t c = search needs
 
-fill-fields-add-w1 : fill-fields-need fill-fields-lts.Need-add-w1
-fill-fields-add-w1 t c = search needs
+fill-fields-add-w1-2 : fill-fields-need fill-fields-lts.Need-add-w1-2
+fill-fields-add-w1-2 t c = search needs
 
 fill-fields-add-n : fill-fields-need fill-fields-lts.Need-add-n
 fill-fields-add-n t c =
-    let i = c .before .before .before .before in
+    let i = c .before .before in
     let f = i .before in
     let l = f .before in
     let s = l .before .before .before .before in
@@ -145,22 +167,32 @@ fill-fields-add-n t c =
 
 fill-fields-loop-less : fill-fields-need fill-fields-lts.Need-loop-less
 fill-fields-loop-less t c =
-    ⊎-elim
-    (λ g. omega (arith, g .3 .ensures .onward .on, g .3 .ensures .onward .inside, g .10))
-    (λ g. omega (arith, g .3 .ensures .onward .on, g .3 .ensures .onward .inside, g .12))
-    (c .if3 .came)
-
-fill-fields-loop-again : fill-fields-need fill-fields-lts.Need-loop-again
-fill-fields-loop-again t c =
-    let i = c .before .before .before .before in
+    let i = c .before .before in
     let f = i .before in
     let l = f .before in
     let s = l .before .before .before .before in
     let on = sym (not-true _ (i .if1 .taken)) ∙ f .fields-end .ensures in
     ⊎-elim
-    (λ g. laws.passing-on (l .loop .inv) on (g .3 .ensures) (g .8) (g .9) (g .10) (g .11) (g .12))
-    (λ g. laws.passing-on (l .loop .inv) on (laws.leaf-filled (s .args .depth) (g .3 .ensures)) (g .10) (g .11) (g .12) (g .13) (rw (← g .9 .ensures) (g .14)))
-    (c .if3 .came)
+    (λ b. let k = laws.null-long (s .args .bytes .now) (l .loop .j) (s .args .depth) on (b .0 .taken) in omega (arith, k .0, k .1, b .3 .ensures .0, b .8))
+    (⊎-elim
+    (λ g. omega (arith, g .6 .ensures .onward .on, g .6 .ensures .onward .inside, g .13))
+    (λ g. omega (arith, g .6 .ensures .onward .on, g .6 .ensures .onward .inside, g .15)))
+    (c .if2 .came)
+
+fill-fields-loop-again : fill-fields-need fill-fields-lts.Need-loop-again
+fill-fields-loop-again t c =
+    let i = c .before .before in
+    let f = i .before in
+    let l = f .before in
+    let s = l .before .before .before .before in
+    let inv = l .loop .inv in
+    let on = sym (not-true _ (i .if1 .taken)) ∙ f .fields-end .ensures in
+    ⊎-elim
+    (λ b. laws.passing-on inv on (laws.null-filled on (b .0 .taken) (omega (arith, b .1 .left)) (omega (arith, inv .onward .pool-in, inv .onward .kept-pool)) (b .3 .ensures)) (b .6) (b .7) (b .8) (b .9) (b .10))
+    (⊎-elim
+    (λ g. laws.passing-on inv on (g .6 .ensures) (g .11) (g .12) (g .13) (g .14) (g .15))
+    (λ g. laws.passing-on inv on (laws.leaf-filled (s .args .depth) (g .6 .ensures)) (g .13) (g .14) (g .15) (g .16) (rw (← g .12 .ensures) (g .17))))
+    (c .if2 .came)
 
 fill-fields-same-length : fill-fields-need fill-fields-lts.Need-same-length
 fill-fields-same-length t c = search needs
@@ -181,10 +213,24 @@ fill-fields-same-length-4 t c = search needs
 
 fill-fields-returns-2 : fill-fields-need fill-fields-lts.Need-returns-2
 fill-fields-returns-2 t c =
-    let i = c .before .before in
+    let i = c .before .before .before in
     let f = i .before in
     let l = f .before in
-    laws.passing-short (l .loop .inv) (sym (not-true _ (i .if1 .taken)) ∙ f .fields-end .ensures) (c .if2 .taken)
+    laws.passing-short (l .loop .inv) (sym (not-true _ (i .if1 .taken)) ∙ f .fields-end .ensures) (omega (arith, c .if3 .taken)) (λ z. c .if3 .taken)
+
+fill-fields-same-length-5 : fill-fields-need fill-fields-lts.Need-same-length-5
+fill-fields-same-length-5 t c = search needs
+
+fill-fields-same-length-6 : fill-fields-need fill-fields-lts.Need-same-length-6
+fill-fields-same-length-6 t c = search needs
+
+fill-fields-returns-3 : fill-fields-need fill-fields-lts.Need-returns-3
+fill-fields-returns-3 t c =
+    let m = c .before in
+    let i = m .before .before in
+    let f = i .before in
+    let l = f .before in
+    laws.passing-short (l .loop .inv) (sym (not-true _ (i .if1 .taken)) ∙ f .fields-end .ensures) (c .if4 .taken) (λ z. absurd (m .if2 .left z))
 
 -- ---- a group
 
@@ -268,7 +314,10 @@ pub +fill-fields+fill-group-spec : {M : Type 1} → statement M
     (fill-fields-loop-holds t)
     (fill-fields-fields-end-requires t)
     (fill-fields-shared-slice-read-mark t)
-    (fill-fields-sub-if2 t)
+    (fill-fields-fill-null-requires t)
+    (fill-fields-add-j t)
+    (fill-fields-add-w1 t)
+    (fill-fields-sub-if4 t)
     (fill-fields-opens-group-requires t)
     (fill-fields-fill-group-requires t)
     (fill-fields-fill-leaf-requires t)
@@ -277,7 +326,7 @@ pub +fill-fields+fill-group-spec : {M : Type 1} → statement M
     (fill-fields-slice-read-pool-taken t)
     (fill-fields-pool-taken-requires t)
     (fill-fields-add-p1 t)
-    (fill-fields-add-w1 t)
+    (fill-fields-add-w1-2 t)
     (fill-fields-add-n t)
     (fill-fields-loop-less t)
     (fill-fields-loop-again t)
@@ -286,7 +335,10 @@ pub +fill-fields+fill-group-spec : {M : Type 1} → statement M
     (fill-fields-returns t)
     (fill-fields-same-length-3 t)
     (fill-fields-same-length-4 t)
-    (fill-fields-returns-2 t))
+    (fill-fields-returns-2 t)
+    (fill-fields-same-length-5 t)
+    (fill-fields-same-length-6 t)
+    (fill-fields-returns-3 t))
     λ t. fill-group-lts.spec (fill-group-claims t)
     (fill-group-at t)
     fill-group.Post

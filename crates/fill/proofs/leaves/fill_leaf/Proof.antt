@@ -56,7 +56,7 @@ returns-4 c =
     let i = f .before .before in
     let j = i .before .before in
     let s = j .before .before .before .before .before in
-    laws.an-int (s .pre .1) (s .pre .2) (j .if1 .left) (i .before .if2 .left) (i .if3 .left) (s .pre .3) (f .fill-int .ensures)
+    laws.an-int (s .pre .1) (s .pre .2) (j .if1 .left) (i .before .if2 .left) (i .if3 .left) (s .pre .3) (s .pre .4) (f .fill-int .ensures)
 
 pub fill-leaf-spec : {M : Type 1} → statement M
 fill-leaf-spec =

@@ -1,9 +1,12 @@
 -- Each way out of a walk is a law of `TypeWalk`. The loops' invariant (`Run`): all end where those that are left do; how many are left falls.
--- Calls nest by groups: the measure is thrice the groups that may still open, and what tells the members of a turn apart.
+-- The measure is thrice the words from the place on, and what tells the members of a turn apart: a group's types stand behind it, and so does that behind a word 7.
 use borrow.Author.Needs.{needs}
 use native.Mathlib.Omega.{arith}
-use Rattle.sheet.proofs.TypeWalk.{none-left, zero-kind, scalar, short, unknown, reference, too-deep, record-end, union-end, Run, run-start, fields-done, fields-fail, fields-go, alts-done, alts-fail, alts-go, alts-out}
-use Prim.Native.Nat.{ℕ, _+_, _*_, _<_}
+use Rattle.sheet.proofs.TypeWalk.{none-left, zero-kind, scalar, short, unknown, reference, seven-twice, optional-zero, optional-scalar, optional-short, optional-reference, optional-end, too-deep, record-end, union-end}
+use Rattle.sheet.proofs.TypeWalk.{Run, run-start, fields-done, fields-fail, fields-go, alts-done, alts-fail, alts-go, alts-out}
+use Prim.Native.Nat.{ℕ, _+_, _-_, _*_, _≤_, _<_}
+use mathlib.Core.Path.{_≡_}
+use lib.ListN.{length}
 use Rattle.format.specs.TypeSheet.{types, alts, typeAt}
 use borrow.Fn.Kinds.{In, Out}
 use borrow.Fn.PlainCycle.{Measures, is, falls, and}
@@ -22,17 +25,20 @@ use Rattle.sheet.proofs.types.+alternatives_end+fields_end+group_end+ty
 use Rattle.sheet.proofs.types.+alternatives_end+fields_end+group_end+type_end.{statement}
 use Rattle.sheet.proofs.types.+alternatives_end+fields_end+group_end+type_end.Tie.{close}
 
+past-four : (k : ℕ) → 4 ≤ k → (k ≡ 4 → ⊥) → 4 < k
+past-four k a b = omega arith
+
 abbrev μ-alternatives-end : Measures 1 alternatives-end-kinds.ps ℕ
-μ-alternatives-end κs a = 3 * a .1 .1 .1 .0 + 2
+μ-alternatives-end κs a = 3 * (length (a .0 .now) - a .1 .0) + 2
 
 abbrev μ-fields-end : Measures 1 fields-end-kinds.ps ℕ
-μ-fields-end κs a = 3 * a .1 .1 .1 .0 + 2
+μ-fields-end κs a = 3 * (length (a .0 .now) - a .1 .0) + 2
 
 abbrev μ-group-end : Measures 1 group-end-kinds.ps ℕ
-μ-group-end κs a = 3 * a .1 .1 .0
+μ-group-end κs a = 3 * (length (a .0 .now) - a .1 .0)
 
 abbrev μ-type-end : Measures 1 type-end-kinds.ps ℕ
-μ-type-end κs a = 3 * a .1 .1 .0 + 1
+μ-type-end κs a = 3 * (length (a .0 .now) - a .1 .0) + 1
 
 abbrev alternatives-end-at : ℕ → In 1 alternatives-end-kinds.ps
 alternatives-end-at t =
@@ -94,7 +100,7 @@ alternatives-end-add-type-end : alternatives-end-need alternatives-end-lts.Need-
 alternatives-end-add-type-end t c = search needs
 
 alternatives-end-type-end-requires : alternatives-end-need alternatives-end-lts.Need-type-end-requires
-alternatives-end-type-end-requires t c κs = (omega arith, tt)
+alternatives-end-type-end-requires t c κs = (omega (arith, c .before .before .loop .inv .low), tt)
 
 alternatives-end-returns-2 : alternatives-end-need alternatives-end-lts.Need-returns-2
 alternatives-end-returns-2 t c = search alts-fail
@@ -127,7 +133,7 @@ fields-end-loop-holds : fields-end-need fields-end-lts.Need-loop-holds
 fields-end-loop-holds t c = search run-start
 
 fields-end-type-end-requires : fields-end-need fields-end-lts.Need-type-end-requires
-fields-end-type-end-requires t c κs = (omega arith, tt)
+fields-end-type-end-requires t c κs = (omega (arith, c .before .loop .inv .low), tt)
 
 fields-end-returns : fields-end-need fields-end-lts.Need-returns
 fields-end-returns t c = search fields-fail
@@ -145,13 +151,10 @@ fields-end-returns-2 : fields-end-need fields-end-lts.Need-returns-2
 fields-end-returns-2 t c = search fields-done
 
 abbrev group-end-claims : ℕ → group-end-lts.Claims
-group-end-claims t = (fields-end-below t, fields-end.Post, alternatives-end-below t, alternatives-end.Post)
+group-end-claims t = (group-end-below t, group-end.Post, fields-end-below t, fields-end.Post, alternatives-end-below t, alternatives-end.Post)
 
 abbrev group-end-need : (group-end-lts.Claims → In 1 group-end-kinds.ps → Out 1 group-end-kinds.ps group-end-kinds.r → Type 0) → Type 0
 group-end-need N = (t : ℕ) → N (group-end-claims t) (group-end-at t) group-end.Post
-
-group-end-returns : group-end-need group-end-lts.Need-returns
-group-end-returns t c = search too-deep
 
 group-end-mul-kind : group-end-need group-end-lts.Need-mul-kind
 group-end-mul-kind t c = search needs
@@ -159,14 +162,50 @@ group-end-mul-kind t c = search needs
 group-end-shared-slice-read-kind : group-end-need group-end-lts.Need-shared-slice-read-kind
 group-end-shared-slice-read-kind t c = search needs
 
-group-end-add-count : group-end-need group-end-lts.Need-add-count
-group-end-add-count t c = search needs
+group-end-add-second : group-end-need group-end-lts.Need-add-second
+group-end-add-second t c = search needs
 
-group-end-mul-count : group-end-need group-end-lts.Need-mul-count
-group-end-mul-count t c = search needs
+group-end-mul-second : group-end-need group-end-lts.Need-mul-second
+group-end-mul-second t c = search needs
 
-group-end-shared-slice-read-count : group-end-need group-end-lts.Need-shared-slice-read-count
-group-end-shared-slice-read-count t c = search needs
+group-end-shared-slice-read-second : group-end-need group-end-lts.Need-shared-slice-read-second
+group-end-shared-slice-read-second t c = search needs
+
+group-end-returns : group-end-need group-end-lts.Need-returns
+group-end-returns t c = search optional-zero
+
+group-end-returns-2 : group-end-need group-end-lts.Need-returns-2
+group-end-returns-2 t c = search seven-twice
+
+group-end-add-result : group-end-need group-end-lts.Need-add-result
+group-end-add-result t c = search needs
+
+group-end-returns-3 : group-end-need group-end-lts.Need-returns-3
+group-end-returns-3 t c = search optional-scalar
+
+group-end-sub-if5 : group-end-need group-end-lts.Need-sub-if5
+group-end-sub-if5 t c = search needs
+
+group-end-returns-4 : group-end-need group-end-lts.Need-returns-4
+group-end-returns-4 t c = search optional-short
+
+group-end-add-result-2 : group-end-need group-end-lts.Need-add-result-2
+group-end-add-result-2 t c = search needs
+
+group-end-returns-5 : group-end-need group-end-lts.Need-returns-5
+group-end-returns-5 t c = search optional-reference
+
+group-end-add-group-end : group-end-need group-end-lts.Need-add-group-end
+group-end-add-group-end t c = search needs
+
+group-end-group-end-requires : group-end-need group-end-lts.Need-group-end-requires
+group-end-group-end-requires t c κs = (omega arith, (omega arith, past-four _ (c .before .before .if4 .left) (c .if6 .left)))
+
+group-end-returns-6 : group-end-need group-end-lts.Need-returns-6
+group-end-returns-6 t c = search optional-end
+
+group-end-returns-7 : group-end-need group-end-lts.Need-returns-7
+group-end-returns-7 t c = search too-deep
 
 group-end-add-fields-end : group-end-need group-end-lts.Need-add-fields-end
 group-end-add-fields-end t c = search needs
@@ -177,8 +216,8 @@ group-end-sub-fields-end t c = search needs
 group-end-fields-end-requires : group-end-need group-end-lts.Need-fields-end-requires
 group-end-fields-end-requires t c κs = (omega arith, omega arith)
 
-group-end-returns-2 : group-end-need group-end-lts.Need-returns-2
-group-end-returns-2 t c = search record-end
+group-end-returns-8 : group-end-need group-end-lts.Need-returns-8
+group-end-returns-8 t c = search record-end
 
 group-end-add-alternatives-end : group-end-need group-end-lts.Need-add-alternatives-end
 group-end-add-alternatives-end t c = search needs
@@ -189,11 +228,11 @@ group-end-sub-alternatives-end t c = search needs
 group-end-alternatives-end-requires : group-end-need group-end-lts.Need-alternatives-end-requires
 group-end-alternatives-end-requires t c κs = (omega arith, omega arith)
 
-group-end-returns-3 : group-end-need group-end-lts.Need-returns-3
-group-end-returns-3 t c = search union-end
+group-end-returns-9 : group-end-need group-end-lts.Need-returns-9
+group-end-returns-9 t c = search union-end
 
-group-end-returns-4 : group-end-need group-end-lts.Need-returns-4
-group-end-returns-4 t c = search unknown
+group-end-returns-10 : group-end-need group-end-lts.Need-returns-10
+group-end-returns-10 t c = search unknown
 
 abbrev type-end-claims : ℕ → type-end-lts.Claims
 type-end-claims t = (group-end-below t, group-end.Post)
@@ -268,21 +307,32 @@ pub +alternatives-end+fields-end+group-end+type-end-spec : {M : Type 1} → stat
     (λ t. group-end-lts.spec (group-end-claims t)
     (group-end-at t)
     group-end.Post
-    (group-end-returns t)
     (group-end-mul-kind t)
     (group-end-shared-slice-read-kind t)
-    (group-end-add-count t)
-    (group-end-mul-count t)
-    (group-end-shared-slice-read-count t)
+    (group-end-add-second t)
+    (group-end-mul-second t)
+    (group-end-shared-slice-read-second t)
+    (group-end-returns t)
+    (group-end-returns-2 t)
+    (group-end-add-result t)
+    (group-end-returns-3 t)
+    (group-end-sub-if5 t)
+    (group-end-returns-4 t)
+    (group-end-add-result-2 t)
+    (group-end-returns-5 t)
+    (group-end-add-group-end t)
+    (group-end-group-end-requires t)
+    (group-end-returns-6 t)
+    (group-end-returns-7 t)
     (group-end-add-fields-end t)
     (group-end-sub-fields-end t)
     (group-end-fields-end-requires t)
-    (group-end-returns-2 t)
+    (group-end-returns-8 t)
     (group-end-add-alternatives-end t)
     (group-end-sub-alternatives-end t)
     (group-end-alternatives-end-requires t)
-    (group-end-returns-3 t)
-    (group-end-returns-4 t))
+    (group-end-returns-9 t)
+    (group-end-returns-10 t))
     λ t. type-end-lts.spec (type-end-claims t)
     (type-end-at t)
     type-end.Post

@@ -1,8 +1,11 @@
--- The walkers call each other at later places of the type sheet: the words left fall, twice them and one more for the fields, which call at the same place.
+-- The walkers call each other at later places of the type sheet: the words left fall. The measure is thrice them, one more for a value and two for the fields,
+-- since the fields call a value at the same place, and a value the walk under the type itself.
 -- The loop keeps that what the walk over the fields left says, with what is summed up so far, it says of them all.
 use Rattle.read.proofs.ValueLaws as laws
+use Rattle.read.proofs.BlankLaws as blanks
 use Prim.Native.Nat.{ℕ, _+_, _-_, _*_, _<_}
 use native.Mathlib.Omega.{arith}
+use mathlib.Core.Logic.{⊎-elim}
 use lib.ListN.{length}
 use borrow.Author.Needs.{needs}
 use Rattle.read.proofs.FieldLaws as fields
@@ -10,28 +13,37 @@ use borrow.Fn.Kinds.{In, Out}
 use borrow.Fn.PlainCycle.{Measures, is, falls, and}
 use Rattle.read.proofs.values.walk_fields.Reads as walk-fields
 use Rattle.read.proofs.values.walk_fields.Kinds as walk-fields-kinds
-use Rattle.read.proofs.values.+walk_fields+walk_value.Lts-walk_fields as walk-fields-lts
+use Rattle.read.proofs.values.+walk_fields+walk_plain+walk_value.Lts-walk_fields as walk-fields-lts
+use Rattle.read.proofs.values.walk_plain.Reads as walk-plain
+use Rattle.read.proofs.values.walk_plain.Kinds as walk-plain-kinds
+use Rattle.read.proofs.values.+walk_fields+walk_plain+walk_value.Lts-walk_plain as walk-plain-lts
 use Rattle.read.proofs.values.walk_value.Reads as walk-value
 use Rattle.read.proofs.values.walk_value.Kinds as walk-value-kinds
-use Rattle.read.proofs.values.+walk_fields+walk_value.Lts-walk_value as walk-value-lts
+use Rattle.read.proofs.values.+walk_fields+walk_plain+walk_value.Lts-walk_value as walk-value-lts
 use Rattle.read.proofs.answers.bad.Reads as bad-reads
+use Rattle.read.proofs.answers.blank.Reads as blank-reads
 use Rattle.read.proofs.answers.more.Reads as more-reads
 use Rattle.sheet.proofs.asks.Reads as asks-reads
 use Rattle.read.proofs.groups.close_union.Reads as close-union-reads
 use Rattle.read.proofs.groups.field_refusal.Reads as field-refusal-reads
 use Rattle.read.proofs.groups.fields_end.Reads as fields-end-reads
 use Rattle.read.proofs.leaves.walk_scalar.Reads as walk-scalar-reads
+use Rattle.scalar.proofs.groups.null.Reads as null-reads
 use Rattle.scalar.proofs.groups.open_record.Reads as open-record-reads
 use Rattle.scalar.proofs.groups.open_union.Reads as open-union-reads
 use Rattle.sheet.proofs.alternative.Reads as alternative-reads
-use Rattle.read.proofs.values.+walk_fields+walk_value.{statement}
-use Rattle.read.proofs.values.+walk_fields+walk_value.Tie.{close}
+use Rattle.sheet.proofs.skip_type.Reads as skip-type-reads
+use Rattle.read.proofs.values.+walk_fields+walk_plain+walk_value.{statement}
+use Rattle.read.proofs.values.+walk_fields+walk_plain+walk_value.Tie.{close}
 
 abbrev μ-walk-fields : Measures 2 walk-fields-kinds.ps ℕ
-μ-walk-fields κs a = 2 * (length (a .0 .now) - a .1 .0) + 1
+μ-walk-fields κs a = 3 * (length (a .0 .now) - a .1 .0) + 2
+
+abbrev μ-walk-plain : Measures 2 walk-plain-kinds.ps ℕ
+μ-walk-plain κs a = 3 * (length (a .0 .now) - a .1 .0)
 
 abbrev μ-walk-value : Measures 2 walk-value-kinds.ps ℕ
-μ-walk-value κs a = 2 * (length (a .0 .now) - a .1 .0)
+μ-walk-value κs a = 3 * (length (a .0 .now) - a .1 .0) + 1
 
 abbrev walk-fields-at : ℕ → In 2 walk-fields-kinds.ps
 walk-fields-at t =
@@ -40,6 +52,14 @@ walk-fields-at t =
 abbrev walk-fields-below : ℕ → In 2 walk-fields-kinds.ps
 walk-fields-below t =
     and 2 walk-fields-kinds.ps (falls 2 walk-fields-kinds.ps _<_ μ-walk-fields t) walk-fields.Pre
+
+abbrev walk-plain-at : ℕ → In 2 walk-plain-kinds.ps
+walk-plain-at t =
+    and 2 walk-plain-kinds.ps (is 2 walk-plain-kinds.ps μ-walk-plain t) walk-plain.Pre
+
+abbrev walk-plain-below : ℕ → In 2 walk-plain-kinds.ps
+walk-plain-below t =
+    and 2 walk-plain-kinds.ps (falls 2 walk-plain-kinds.ps _<_ μ-walk-plain t) walk-plain.Pre
 
 abbrev walk-value-at : ℕ → In 2 walk-value-kinds.ps
 walk-value-at t =
@@ -63,8 +83,8 @@ walk-fields-claims t = (
   fields-end-reads.Learnt,
 )
 
-abbrev walk-value-claims : ℕ → walk-value-lts.Claims
-walk-value-claims t = (
+abbrev walk-plain-claims : ℕ → walk-plain-lts.Claims
+walk-plain-claims t = (
   walk-scalar-reads.Asked,
   walk-scalar-reads.Learnt,
   open-record-reads.Asked,
@@ -83,6 +103,18 @@ walk-value-claims t = (
   walk-value.Post,
   close-union-reads.Asked,
   close-union-reads.Learnt,
+)
+
+abbrev walk-value-claims : ℕ → walk-value-lts.Claims
+walk-value-claims t = (
+  null-reads.Asked,
+  null-reads.Learnt,
+  skip-type-reads.Asked,
+  skip-type-reads.Learnt,
+  blank-reads.Asked,
+  blank-reads.Learnt,
+  walk-plain-below t,
+  walk-plain.Post,
 )
 
 abbrev walk-fields-Inv-loop : walk-fields-lts.InvT-loop
@@ -110,7 +142,7 @@ turn t c =
       value = c .walk-value .ensures;
     }
 
-opened-record : (t : ℕ) (c : walk-value-lts.After-open-record (walk-value-claims t) (walk-value-at t) walk-value.Post)
+opened-record : (t : ℕ) (c : walk-plain-lts.After-open-record (walk-plain-claims t) (walk-plain-at t) walk-plain.Post)
     → let a = c .before .before .before .before .before .before .before .before .args in
     laws.OpenedRecord (a .ty .now) (a .at) (a .bytes .now) (a .i) (a .depth) (c .open-record .result)
 opened-record t c =
@@ -118,12 +150,12 @@ opened-record t c =
     let s = k .before .before .before .before .before in
     laws.record-opened (s .args .bytes .now) (s .args .i) (s .args .depth) (s .pre .1) (s .good .0 .1) (k .if2 .taken) (c .open-record .ensures)
 
-in-record : (t : ℕ) (c : walk-value-lts.After-used (walk-value-claims t) (walk-value-at t) walk-value.Post)
+in-record : (t : ℕ) (c : walk-plain-lts.After-used (walk-plain-claims t) (walk-plain-at t) walk-plain.Post)
     → let a = c .before .before .before .before .before .before .before .before .before .before .args in
     laws.InRecord (a .ty .now) (a .at) (a .bytes .now) (a .i) (a .depth) (c .used .given .0 .0)
 in-record t c = record { o = c .before .before .open-record .result; opened = opened-record t (c .before .before); done = c .used .given .1 }
 
-opened-union : (t : ℕ) (c : walk-value-lts.After-open-union (walk-value-claims t) (walk-value-at t) walk-value.Post)
+opened-union : (t : ℕ) (c : walk-plain-lts.After-open-union (walk-plain-claims t) (walk-plain-at t) walk-plain.Post)
     → let a = c .before .before .before .before .before .before .before .args in
     laws.OpenedUnion (a .ty .now) (a .at) (a .bytes .now) (a .i) (a .depth) (c .open-union .result)
 opened-union t c =
@@ -131,13 +163,19 @@ opened-union t c =
     let s = k .before .before .before .before .before in
     laws.union-opened (s .args .bytes .now) (s .args .i) (s .args .depth) (s .pre .1) (s .good .0 .1) (k .before .if1 .left) (k .if2 .left) (c .open-union .ensures)
 
-in-union : (t : ℕ) (c : walk-value-lts.After-alternative (walk-value-claims t) (walk-value-at t) walk-value.Post)
+in-union : (t : ℕ) (c : walk-plain-lts.After-alternative (walk-plain-claims t) (walk-plain-at t) walk-plain.Post)
     → let g = c .before .before in
     let a = g .before .before .before .before .before .before .before .before .before .args in
     laws.InUnion (a .ty .now) (a .at) (a .bytes .now) (a .i) (a .depth) (g .tag .given .0 .0) (g .tag .given .0 .1 .0) (c .alternative .result .place) (c .alternative .result .left)
 in-union t c =
     let g = c .before .before in
     record { o = g .before .before .open-union .result; opened = opened-union t (g .before .before); tagged = g .tag .given .1; picks = c .alternative .ensures .picks }
+
+-- the place of the type itself, once no null was read
+peeled : (t : ℕ) (c : walk-value-lts.Joined1 (walk-value-claims t) (walk-value-at t) walk-value.Post)
+    → let a = c .before .before .before .before .args in
+    blanks.Peeled (a .ty .now) (a .at) (a .bytes .now) (a .i) (a .depth) (c .if1 .place)
+peeled t c = ⊎-elim (λ w. blanks.p-filled (w .0 .taken) (w .2 .ensures) (w .4 .given .1) (w .5)) (λ w. blanks.plain (w .0 .left) (w .1)) (c .if1 .came)
 
 abbrev walk-fields-need : (walk-fields-lts.Claims → In 2 walk-fields-kinds.ps → Out 2 walk-fields-kinds.ps walk-fields-kinds.r → walk-fields-lts.InvT-loop → walk-fields-lts.MeasureT-loop → Type 0) → Type 0
 walk-fields-need N = (t : ℕ) → N (walk-fields-claims t) (walk-fields-at t) walk-fields.Post walk-fields-Inv-loop walk-fields-μ-loop
@@ -250,175 +288,238 @@ walk-fields-returns-4 t c =
     let at-loop-test = at-fields-end .before in
     fields.t-done (at-loop-test .before .loop .inv) (at-loop-test .loop-test .left) (rw (at-next .next .given .1) at (at-fields-end .fields-end .ensures))
 
-abbrev walk-value-need : (walk-value-lts.Claims → In 2 walk-value-kinds.ps → Out 2 walk-value-kinds.ps walk-value-kinds.r → Type 0) → Type 0
-walk-value-need N = (t : ℕ) → N (walk-value-claims t) (walk-value-at t) walk-value.Post
+abbrev walk-plain-need : (walk-plain-lts.Claims → In 2 walk-plain-kinds.ps → Out 2 walk-plain-kinds.ps walk-plain-kinds.r → Type 0) → Type 0
+walk-plain-need N = (t : ℕ) → N (walk-plain-claims t) (walk-plain-at t) walk-plain.Post
 
-walk-value-mul-kind : walk-value-need walk-value-lts.Need-mul-kind
-walk-value-mul-kind t c = search needs
+walk-plain-mul-kind : walk-plain-need walk-plain-lts.Need-mul-kind
+walk-plain-mul-kind t c = search needs
 
-walk-value-shared-slice-read-kind : walk-value-need walk-value-lts.Need-shared-slice-read-kind
-walk-value-shared-slice-read-kind t c =
+walk-plain-shared-slice-read-kind : walk-plain-need walk-plain-lts.Need-shared-slice-read-kind
+walk-plain-shared-slice-read-kind t c =
     let s = c .before .before .before in
     omega (arith, laws.at-in (s .pre .1 .0))
 
-walk-value-sub-walk-scalar : walk-value-need walk-value-lts.Need-sub-walk-scalar
-walk-value-sub-walk-scalar t c = search needs
+walk-plain-sub-walk-scalar : walk-plain-need walk-plain-lts.Need-sub-walk-scalar
+walk-plain-sub-walk-scalar t c = search needs
 
-walk-value-part-walk-scalar-start : walk-value-need walk-value-lts.Need-part-walk-scalar-start
-walk-value-part-walk-scalar-start t c = search needs
+walk-plain-part-walk-scalar-start : walk-plain-need walk-plain-lts.Need-part-walk-scalar-start
+walk-plain-part-walk-scalar-start t c = search needs
 
-walk-value-part-walk-scalar-end : walk-value-need walk-value-lts.Need-part-walk-scalar-end
-walk-value-part-walk-scalar-end t c = search needs
+walk-plain-part-walk-scalar-end : walk-plain-need walk-plain-lts.Need-part-walk-scalar-end
+walk-plain-part-walk-scalar-end t c = search needs
 
-walk-value-walk-scalar-requires : walk-value-need walk-value-lts.Need-walk-scalar-requires
-walk-value-walk-scalar-requires t c κs =
+walk-plain-walk-scalar-requires : walk-plain-need walk-plain-lts.Need-walk-scalar-requires
+walk-plain-walk-scalar-requires t c κs =
     let at-if1 = c .before in
     let s = at-if1 .before .before .before .before in
-    (s .pre .1 .0, (at-if1 .if1 .taken, omega (arith, laws.rest-room (s .args .bytes .now) (s .args .i) (s .pre .1 .1))))
+    (s .pre .1 .0, (at-if1 .if1 .taken, omega (arith, laws.rest-room (s .args .bytes .now) (s .args .i) (s .pre .1 .1 .0))))
 
-walk-value-returns : walk-value-need walk-value-lts.Need-returns
-walk-value-returns t c =
+walk-plain-returns : walk-plain-need walk-plain-lts.Need-returns
+walk-plain-returns t c =
     let s = c .before .before .before .before .before .before in
-    laws.v-scalar (s .pre .1 .1) (c .walk-scalar .ensures)
+    laws.v-scalar (s .pre .1 .1 .0) (c .walk-scalar .ensures)
 
-walk-value-add-n : walk-value-need walk-value-lts.Need-add-n
-walk-value-add-n t c =
+walk-plain-add-n : walk-plain-need walk-plain-lts.Need-add-n
+walk-plain-add-n t c =
     let s = c .before .before .before .before .before in
     omega (arith, laws.second-in (s .pre .1 .0) (c .if2 .taken))
 
-walk-value-mul-n : walk-value-need walk-value-lts.Need-mul-n
-walk-value-mul-n t c = search needs
+walk-plain-mul-n : walk-plain-need walk-plain-lts.Need-mul-n
+walk-plain-mul-n t c = search needs
 
-walk-value-shared-slice-read-n : walk-value-need walk-value-lts.Need-shared-slice-read-n
-walk-value-shared-slice-read-n t c =
+walk-plain-shared-slice-read-n : walk-plain-need walk-plain-lts.Need-shared-slice-read-n
+walk-plain-shared-slice-read-n t c =
     let at-if2 = c .before in
     let s = at-if2 .before .before .before .before .before in
     omega (arith, laws.second-in (s .pre .1 .0) (at-if2 .if2 .taken))
 
-walk-value-sub-open-record : walk-value-need walk-value-lts.Need-sub-open-record
-walk-value-sub-open-record t c = search needs
+walk-plain-sub-open-record : walk-plain-need walk-plain-lts.Need-sub-open-record
+walk-plain-sub-open-record t c = search needs
 
-walk-value-part-open-record-start : walk-value-need walk-value-lts.Need-part-open-record-start
-walk-value-part-open-record-start t c = search needs
+walk-plain-part-open-record-start : walk-plain-need walk-plain-lts.Need-part-open-record-start
+walk-plain-part-open-record-start t c = search needs
 
-walk-value-part-open-record-end : walk-value-need walk-value-lts.Need-part-open-record-end
-walk-value-part-open-record-end t c = search needs
+walk-plain-part-open-record-end : walk-plain-need walk-plain-lts.Need-part-open-record-end
+walk-plain-part-open-record-end t c = search needs
 
-walk-value-open-record-requires : walk-value-need walk-value-lts.Need-open-record-requires
-walk-value-open-record-requires t c κs = search needs
+walk-plain-open-record-requires : walk-plain-need walk-plain-lts.Need-open-record-requires
+walk-plain-open-record-requires t c κs = search needs
 
-walk-value-enum-known-no : walk-value-need walk-value-lts.Need-enum-known-no
-walk-value-enum-known-no t c = search needs
+walk-plain-enum-known-no : walk-plain-need walk-plain-lts.Need-enum-known-no
+walk-plain-enum-known-no t c = search needs
 
-walk-value-bad-requires : walk-value-need walk-value-lts.Need-bad-requires
-walk-value-bad-requires t c κs = search needs
+walk-plain-bad-requires : walk-plain-need walk-plain-lts.Need-bad-requires
+walk-plain-bad-requires t c κs = search needs
 
-walk-value-enum-known-used : walk-value-need walk-value-lts.Need-enum-known-used
-walk-value-enum-known-used t c = search needs
+walk-plain-enum-known-used : walk-plain-need walk-plain-lts.Need-enum-known-used
+walk-plain-enum-known-used t c = search needs
 
-walk-value-add-walk-fields : walk-value-need walk-value-lts.Need-add-walk-fields
-walk-value-add-walk-fields t c =
+walk-plain-add-walk-fields : walk-plain-need walk-plain-lts.Need-add-walk-fields
+walk-plain-add-walk-fields t c =
     let at-if2 = c .before .before .before .before .before .before in
     let s = at-if2 .before .before .before .before .before in
     omega (arith, laws.second-in (s .pre .1 .0) (at-if2 .if2 .taken))
 
-walk-value-add-walk-fields-2 : walk-value-need walk-value-lts.Need-add-walk-fields-2
-walk-value-add-walk-fields-2 t c = omega (arith, laws.v-record-next (in-record t (c .before)) .1)
+walk-plain-add-walk-fields-2 : walk-plain-need walk-plain-lts.Need-add-walk-fields-2
+walk-plain-add-walk-fields-2 t c = omega (arith, laws.v-record-next (in-record t (c .before)) .1)
 
-walk-value-add-walk-fields-3 : walk-value-need walk-value-lts.Need-add-walk-fields-3
-walk-value-add-walk-fields-3 t c = omega (arith, laws.v-record-next (in-record t (c .before)) .0)
+walk-plain-add-walk-fields-3 : walk-plain-need walk-plain-lts.Need-add-walk-fields-3
+walk-plain-add-walk-fields-3 t c = omega (arith, laws.v-record-next (in-record t (c .before)) .0)
 
-walk-value-walk-fields-requires : walk-value-need walk-value-lts.Need-walk-fields-requires
-walk-value-walk-fields-requires t c κs =
+walk-plain-walk-fields-requires : walk-plain-need walk-plain-lts.Need-walk-fields-requires
+walk-plain-walk-fields-requires t c κs =
     let at-used = c .before in
     let at-if2 = at-used .before .before .before .before .before in
     let s = at-if2 .before .before .before .before .before in
     let n = laws.v-record-next (in-record t at-used) in
     (omega (arith, s .pre .0, laws.second-in (s .pre .1 .0) (at-if2 .if2 .taken)), (n .2, n .1))
 
-walk-value-more-requires : walk-value-need walk-value-lts.Need-more-requires
-walk-value-more-requires t c κs = (omega arith, omega arith, laws.v-record-small (in-record t (c .before .before)) (c .walk-fields .ensures))
+walk-plain-more-requires : walk-plain-need walk-plain-lts.Need-more-requires
+walk-plain-more-requires t c κs = (omega arith, omega arith, laws.v-record-small (in-record t (c .before .before)) (c .walk-fields .ensures))
 
-walk-value-returns-2 : walk-value-need walk-value-lts.Need-returns-2
-walk-value-returns-2 t c =
+walk-plain-returns-2 : walk-plain-need walk-plain-lts.Need-returns-2
+walk-plain-returns-2 t c =
     let at-no = c .before .before in
     rw (c .bad .ensures) (laws.v-record-bad (opened-record t (at-no .before .before)) (at-no .no .given .1))
 
-walk-value-returns-3 : walk-value-need walk-value-lts.Need-returns-3
-walk-value-returns-3 t c =
+walk-plain-returns-3 : walk-plain-need walk-plain-lts.Need-returns-3
+walk-plain-returns-3 t c =
     let at-walk-fields = c .before in
     rw (c .more .ensures) (laws.v-record (in-record t (at-walk-fields .before .before)) (at-walk-fields .walk-fields .ensures))
 
-walk-value-sub-open-union : walk-value-need walk-value-lts.Need-sub-open-union
-walk-value-sub-open-union t c = search needs
+walk-plain-sub-open-union : walk-plain-need walk-plain-lts.Need-sub-open-union
+walk-plain-sub-open-union t c = search needs
 
-walk-value-part-open-union-start : walk-value-need walk-value-lts.Need-part-open-union-start
-walk-value-part-open-union-start t c = search needs
+walk-plain-part-open-union-start : walk-plain-need walk-plain-lts.Need-part-open-union-start
+walk-plain-part-open-union-start t c = search needs
 
-walk-value-part-open-union-end : walk-value-need walk-value-lts.Need-part-open-union-end
-walk-value-part-open-union-end t c = search needs
+walk-plain-part-open-union-end : walk-plain-need walk-plain-lts.Need-part-open-union-end
+walk-plain-part-open-union-end t c = search needs
 
-walk-value-open-union-requires : walk-value-need walk-value-lts.Need-open-union-requires
-walk-value-open-union-requires t c κs = search needs
+walk-plain-open-union-requires : walk-plain-need walk-plain-lts.Need-open-union-requires
+walk-plain-open-union-requires t c κs = search needs
 
-walk-value-enum-known-no-2 : walk-value-need walk-value-lts.Need-enum-known-no-2
-walk-value-enum-known-no-2 t c = search needs
+walk-plain-enum-known-no-2 : walk-plain-need walk-plain-lts.Need-enum-known-no-2
+walk-plain-enum-known-no-2 t c = search needs
 
-walk-value-bad-requires-2 : walk-value-need walk-value-lts.Need-bad-requires-2
-walk-value-bad-requires-2 t c κs = search needs
+walk-plain-bad-requires-2 : walk-plain-need walk-plain-lts.Need-bad-requires-2
+walk-plain-bad-requires-2 t c κs = search needs
 
-walk-value-enum-known-tag : walk-value-need walk-value-lts.Need-enum-known-tag
-walk-value-enum-known-tag t c = search needs
+walk-plain-enum-known-tag : walk-plain-need walk-plain-lts.Need-enum-known-tag
+walk-plain-enum-known-tag t c = search needs
 
-walk-value-alternative-requires : walk-value-need walk-value-lts.Need-alternative-requires
-walk-value-alternative-requires t c κs = search needs
+walk-plain-alternative-requires : walk-plain-need walk-plain-lts.Need-alternative-requires
+walk-plain-alternative-requires t c κs = search needs
 
-walk-value-bad-requires-3 : walk-value-need walk-value-lts.Need-bad-requires-3
-walk-value-bad-requires-3 t c κs = search needs
+walk-plain-bad-requires-3 : walk-plain-need walk-plain-lts.Need-bad-requires-3
+walk-plain-bad-requires-3 t c κs = search needs
 
-walk-value-returns-4 : walk-value-need walk-value-lts.Need-returns-4
-walk-value-returns-4 t c =
+walk-plain-returns-4 : walk-plain-need walk-plain-lts.Need-returns-4
+walk-plain-returns-4 t c =
     let at-if3 = c .before in
     rw (c .bad3 .ensures) (laws.v-missing (in-union t (at-if3 .before)) (at-if3 .if3 .taken))
 
-walk-value-add-walk-value : walk-value-need walk-value-lts.Need-add-walk-value
-walk-value-add-walk-value t c = omega (arith, laws.v-union-next (in-union t (c .before)) (c .if3 .left) .2)
+walk-plain-add-walk-value : walk-plain-need walk-plain-lts.Need-add-walk-value
+walk-plain-add-walk-value t c = omega (arith, laws.v-union-next (in-union t (c .before)) (c .if3 .left) .2)
 
-walk-value-add-walk-value-2 : walk-value-need walk-value-lts.Need-add-walk-value-2
-walk-value-add-walk-value-2 t c = omega (arith, laws.v-union-next (in-union t (c .before)) (c .if3 .left) .1)
+walk-plain-add-walk-value-2 : walk-plain-need walk-plain-lts.Need-add-walk-value-2
+walk-plain-add-walk-value-2 t c = omega (arith, laws.v-union-next (in-union t (c .before)) (c .if3 .left) .1)
 
-walk-value-walk-value-requires : walk-value-need walk-value-lts.Need-walk-value-requires
-walk-value-walk-value-requires t c κs =
+walk-plain-walk-value-requires : walk-plain-need walk-plain-lts.Need-walk-value-requires
+walk-plain-walk-value-requires t c κs =
     let at-alternative = c .before in
     let s = at-alternative .before .before .before .before .before .before .before .before .before .before .before in
     let n = laws.v-union-next (in-union t at-alternative) (c .if3 .left) in
     (omega (arith, s .pre .0, laws.at-in (s .pre .1 .0), n .0), (n .3, n .2))
 
-walk-value-close-union-requires : walk-value-need walk-value-lts.Need-close-union-requires
-walk-value-close-union-requires t c κs =
+walk-plain-close-union-requires : walk-plain-need walk-plain-lts.Need-close-union-requires
+walk-plain-close-union-requires t c κs =
     let at-if3 = c .before in
     laws.v-in-key (in-union t (at-if3 .before)) (at-if3 .if3 .left) (c .walk-value .ensures)
 
-walk-value-more-requires-2 : walk-value-need walk-value-lts.Need-more-requires-2
-walk-value-more-requires-2 t c κs =
+walk-plain-more-requires-2 : walk-plain-need walk-plain-lts.Need-more-requires-2
+walk-plain-more-requires-2 t c κs =
     let at-walk-value = c .before in
     let at-if3 = at-walk-value .before in
     (omega arith, omega arith, laws.v-union-small (in-union t (at-if3 .before)) (at-if3 .if3 .left) (at-walk-value .walk-value .ensures) _ (c .close-union .ensures))
 
-walk-value-returns-5 : walk-value-need walk-value-lts.Need-returns-5
-walk-value-returns-5 t c =
+walk-plain-returns-5 : walk-plain-need walk-plain-lts.Need-returns-5
+walk-plain-returns-5 t c =
     let at-no2 = c .before .before in
     rw (c .bad2 .ensures) (laws.v-union-bad (opened-union t (at-no2 .before .before)) (at-no2 .no2 .given .1))
 
-walk-value-returns-6 : walk-value-need walk-value-lts.Need-returns-6
-walk-value-returns-6 t c =
+walk-plain-returns-6 : walk-plain-need walk-plain-lts.Need-returns-6
+walk-plain-returns-6 t c =
     let at-close-union = c .before in
     let at-walk-value = at-close-union .before in
     let at-if3 = at-walk-value .before in
     rw (c .more2 .ensures) (laws.v-union (in-union t (at-if3 .before)) (at-if3 .if3 .left) (at-walk-value .walk-value .ensures) _ (at-close-union .close-union .ensures))
 
-pub +walk-fields+walk-value-spec : {M : Type 1} → statement M
-+walk-fields+walk-value-spec = close μ-walk-fields μ-walk-value (λ t. walk-fields-lts.spec (walk-fields-claims t)
+abbrev walk-value-need : (walk-value-lts.Claims → In 2 walk-value-kinds.ps → Out 2 walk-value-kinds.ps walk-value-kinds.r → Type 0) → Type 0
+walk-value-need N = (t : ℕ) → N (walk-value-claims t) (walk-value-at t) walk-value.Post
+
+walk-value-mul-if1 : walk-value-need walk-value-lts.Need-mul-if1
+walk-value-mul-if1 t c = search needs
+
+walk-value-shared-slice-read-if1 : walk-value-need walk-value-lts.Need-shared-slice-read-if1
+walk-value-shared-slice-read-if1 t c =
+    let s = c .before .before .before in
+    omega (arith, laws.at-in (s .pre .1 .0))
+
+walk-value-sub-null : walk-value-need walk-value-lts.Need-sub-null
+walk-value-sub-null t c = search needs
+
+walk-value-part-null-start : walk-value-need walk-value-lts.Need-part-null-start
+walk-value-part-null-start t c = search needs
+
+walk-value-part-null-end : walk-value-need walk-value-lts.Need-part-null-end
+walk-value-part-null-end t c = search needs
+
+walk-value-null-requires : walk-value-need walk-value-lts.Need-null-requires
+walk-value-null-requires t c κs = search needs
+
+walk-value-enum-known-used : walk-value-need walk-value-lts.Need-enum-known-used
+walk-value-enum-known-used t c = search needs
+
+walk-value-skip-type-requires : walk-value-need walk-value-lts.Need-skip-type-requires
+walk-value-skip-type-requires t c κs = search needs
+
+walk-value-add-blank : walk-value-need walk-value-lts.Need-add-blank
+walk-value-add-blank t c =
+    let at-used = c .before .before in
+    let at-null = at-used .before .before in
+    let s = at-null .before .before .before .before .before .before in
+    omega (arith, blanks.null-room (s .args .bytes .now) (s .args .i) (s .args .depth) (at-null .null .ensures) (s .pre .1 .1) (at-used .used .given .1))
+
+walk-value-blank-requires : walk-value-need walk-value-lts.Need-blank-requires
+walk-value-blank-requires t c κs = search needs
+
+walk-value-returns : walk-value-need walk-value-lts.Need-returns
+walk-value-returns t c =
+    let at-skip-type = c .before in
+    let at-used = at-skip-type .before .before in
+    let at-null = at-used .before .before in
+    let at-if1 = at-null .before .before in
+    let s = at-if1 .before .before .before .before in
+    blanks.v-blank (at-if1 .if1 .taken) (at-null .null .ensures) (s .pre .1 .1) (at-used .used .given .1) (at-skip-type .skip-type .ensures) (c .blank .ensures)
+
+walk-value-enum-told : walk-value-need walk-value-lts.Need-enum-told
+walk-value-enum-told t c = search needs
+
+walk-value-add-place : walk-value-need walk-value-lts.Need-add-place
+walk-value-add-place t c = search needs
+
+walk-value-walk-plain-requires : walk-value-need walk-value-lts.Need-walk-plain-requires
+walk-value-walk-plain-requires t c κs =
+    let s = c .before .before .before .before in
+    let n = blanks.p-next (peeled t c) (s .pre .1 .0) in
+    (omega (arith, s .pre .0, n .2), (n .0, (s .pre .1 .1, n .1)))
+
+walk-value-returns-2 : walk-value-need walk-value-lts.Need-returns-2
+walk-value-returns-2 t c = blanks.p-value (peeled t (c .before)) (c .walk-plain .ensures)
+
+pub +walk-fields+walk-plain+walk-value-spec : {M : Type 1} → statement M
++walk-fields+walk-plain+walk-value-spec = close μ-walk-fields μ-walk-plain μ-walk-value (λ t. walk-fields-lts.spec (walk-fields-claims t)
     (walk-fields-at t)
     walk-fields.Post
     walk-fields-Inv-loop
@@ -446,47 +547,65 @@ pub +walk-fields+walk-value-spec : {M : Type 1} → statement M
     (walk-fields-enum-known-next t)
     (walk-fields-returns-3 t)
     (walk-fields-returns-4 t))
+    (λ t. walk-plain-lts.spec (walk-plain-claims t)
+    (walk-plain-at t)
+    walk-plain.Post
+    (walk-plain-mul-kind t)
+    (walk-plain-shared-slice-read-kind t)
+    (walk-plain-sub-walk-scalar t)
+    (walk-plain-part-walk-scalar-start t)
+    (walk-plain-part-walk-scalar-end t)
+    (walk-plain-walk-scalar-requires t)
+    (walk-plain-returns t)
+    (walk-plain-add-n t)
+    (walk-plain-mul-n t)
+    (walk-plain-shared-slice-read-n t)
+    (walk-plain-sub-open-record t)
+    (walk-plain-part-open-record-start t)
+    (walk-plain-part-open-record-end t)
+    (walk-plain-open-record-requires t)
+    (walk-plain-enum-known-no t)
+    (walk-plain-bad-requires t)
+    (walk-plain-enum-known-used t)
+    (walk-plain-add-walk-fields t)
+    (walk-plain-add-walk-fields-2 t)
+    (walk-plain-add-walk-fields-3 t)
+    (walk-plain-walk-fields-requires t)
+    (walk-plain-more-requires t)
+    (walk-plain-returns-2 t)
+    (walk-plain-returns-3 t)
+    (walk-plain-sub-open-union t)
+    (walk-plain-part-open-union-start t)
+    (walk-plain-part-open-union-end t)
+    (walk-plain-open-union-requires t)
+    (walk-plain-enum-known-no-2 t)
+    (walk-plain-bad-requires-2 t)
+    (walk-plain-enum-known-tag t)
+    (walk-plain-alternative-requires t)
+    (walk-plain-bad-requires-3 t)
+    (walk-plain-returns-4 t)
+    (walk-plain-add-walk-value t)
+    (walk-plain-add-walk-value-2 t)
+    (walk-plain-walk-value-requires t)
+    (walk-plain-close-union-requires t)
+    (walk-plain-more-requires-2 t)
+    (walk-plain-returns-5 t)
+    (walk-plain-returns-6 t))
     λ t. walk-value-lts.spec (walk-value-claims t)
     (walk-value-at t)
     walk-value.Post
-    (walk-value-mul-kind t)
-    (walk-value-shared-slice-read-kind t)
-    (walk-value-sub-walk-scalar t)
-    (walk-value-part-walk-scalar-start t)
-    (walk-value-part-walk-scalar-end t)
-    (walk-value-walk-scalar-requires t)
-    (walk-value-returns t)
-    (walk-value-add-n t)
-    (walk-value-mul-n t)
-    (walk-value-shared-slice-read-n t)
-    (walk-value-sub-open-record t)
-    (walk-value-part-open-record-start t)
-    (walk-value-part-open-record-end t)
-    (walk-value-open-record-requires t)
-    (walk-value-enum-known-no t)
-    (walk-value-bad-requires t)
+    (walk-value-mul-if1 t)
+    (walk-value-shared-slice-read-if1 t)
+    (walk-value-sub-null t)
+    (walk-value-part-null-start t)
+    (walk-value-part-null-end t)
+    (walk-value-null-requires t)
     (walk-value-enum-known-used t)
-    (walk-value-add-walk-fields t)
-    (walk-value-add-walk-fields-2 t)
-    (walk-value-add-walk-fields-3 t)
-    (walk-value-walk-fields-requires t)
-    (walk-value-more-requires t)
+    (walk-value-skip-type-requires t)
+    (walk-value-add-blank t)
+    (walk-value-blank-requires t)
+    (walk-value-returns t)
+    (walk-value-enum-told t)
+    (walk-value-add-place t)
+    (walk-value-walk-plain-requires t)
     (walk-value-returns-2 t)
-    (walk-value-returns-3 t)
-    (walk-value-sub-open-union t)
-    (walk-value-part-open-union-start t)
-    (walk-value-part-open-union-end t)
-    (walk-value-open-union-requires t)
-    (walk-value-enum-known-no-2 t)
-    (walk-value-bad-requires-2 t)
-    (walk-value-enum-known-tag t)
-    (walk-value-alternative-requires t)
-    (walk-value-bad-requires-3 t)
-    (walk-value-returns-4 t)
-    (walk-value-add-walk-value t)
-    (walk-value-add-walk-value-2 t)
-    (walk-value-walk-value-requires t)
-    (walk-value-close-union-requires t)
-    (walk-value-more-requires-2 t)
-    (walk-value-returns-5 t)
-    (walk-value-returns-6 t)
