@@ -75,6 +75,8 @@ scrolls include/tuple.h
 scrolls crates/tuple/src/reader.rt
 scrolls crates/chars/src/lib.rt
 scrolls rust/src/cursor.rs
+blanks include/tuple.h
+blanks rust/src/sheet.rs
 END
 sequences=$(sed -n 's/^pub const SEQUENCES: u64 = \([0-9a-fx_]*\);$/\1/p' crates/format/src/lib.rt | tr -d _)
 {

@@ -1,6 +1,7 @@
 /* The stack that each call uses: every call on the deepest and the widest sheets, each in a thread of its own whose stack is painted before and looked at after. */
 #define _GNU_SOURCE
 #include "../../include/tuple.h"
+#include <ctype.h>
 #include <pthread.h>
 #include <stdio.h>
 #include <stdlib.h>
@@ -23,7 +24,7 @@ typedef struct {
     size_t typed_len, key_len;
 } input;
 
-static input inputs[16];
+static input inputs[24];
 static int count;
 
 /* an Int in the type, the value and both encodings */
@@ -38,20 +39,25 @@ static void integer(input *in) {
     in->key_len += 2;
 }
 
-/* `depth` groups round an Int, each a record if its letter in the pattern is r, a record with an Int behind the group in it if it is i, else a union */
+/* `depth` groups round an Int, each a record if its letter in the pattern is r, a record with an Int behind the group in it if it is i, else a union; optional
+ * where the letter is upper case */
 static void nest(const char *name, int depth, const char *pattern) {
     input *in = &inputs[count++];
     in->name = name;
     size_t n = strlen(pattern);
+    bool bare = pattern[0] == 'r' || pattern[0] == 'i';
     for (int i = 0; i < depth; i++) {
-        if (pattern[i % n] != 'u') {
-            int fields = pattern[i % n] == 'i' ? 2 : 1;
+        char group = tolower(pattern[i % n]);
+        if (isupper(pattern[i % n]))
+            in->type[in->type_len++] = 7;
+        if (group != 'u') {
+            int fields = group == 'i' ? 2 : 1;
             in->type[in->type_len++] = 5;
             in->type[in->type_len++] = fields;
             in->words[in->words_len++] = 5;
             in->words[in->words_len++] = fields;
             in->typed[in->typed_len++] = 0x22;
-            if (i > 0)
+            if (i > 0 || !bare)
                 in->key[in->key_len++] = 0x22;
         } else {
             in->type[in->type_len++] = 6;
@@ -68,11 +74,10 @@ static void nest(const char *name, int depth, const char *pattern) {
     }
     integer(in);
     for (int i = depth - 1; i >= 0; i--) {
-        bool bare = i == 0 && pattern[0] != 'u';
-        if (pattern[i % n] == 'i')
+        if (tolower(pattern[i % n]) == 'i')
             integer(in);
         in->typed[in->typed_len++] = 0;
-        if (!bare)
+        if (i > 0 || !bare)
             in->key[in->key_len++] = 0;
     }
 }
@@ -193,6 +198,13 @@ int main(void) {
     nest("256 unions", 256, "u");
     nest("256, by turns", 256, "ru");
     nest("257, by turns", 257, "ru");
+    nest("256 optional records", 256, "R");
+    nest("320 optional records", 320, "R");
+    nest("256 optional records, an Int behind each", 256, "I");
+    nest("256 optional unions", 256, "U");
+    nest("256 records, every second optional", 256, "rR");
+    nest("257 records, every second optional", 257, "iI");
+    nest("256, records and optional unions by turns", 256, "rU");
     widen();
 
     /* a page that nobody may touch lies below the stack */

@@ -160,6 +160,16 @@ pub fn record_ty(random: &mut Random, nodes: usize) -> Ty {
     Ty::Record((0..count).map(|_| ty(random, nodes / count)).collect())
 }
 
+/// The type with word 7 before some of its parts, or before itself.
+pub fn with_optional(random: &mut Random, ty: Ty) -> Ty {
+    let ty = match ty {
+        Ty::Record(fields) => Ty::Record(fields.into_iter().map(|field| with_optional(random, field)).collect()),
+        Ty::Union(alternatives) => Ty::Union(alternatives.into_iter().map(|(disc, ty)| (disc, with_optional(random, ty))).collect()),
+        scalar => scalar,
+    };
+    if random.below(5) < 2 { ty.optional() } else { ty }
+}
+
 /// A value that the type takes, where it takes any.
 pub fn fitting(random: &mut Random, ty: &Ty) -> Val {
     match ty {
@@ -181,6 +191,12 @@ pub fn fitting(random: &mut Random, ty: &Ty) -> Val {
             let chosen = random.pick(&alternatives.iter().map(|(disc, _)| *disc).collect::<Vec<_>>());
             let (disc, ty) = alternatives.iter().find(|(disc, _)| *disc == chosen).expect("one of them");
             Val::Union(u64::from(*disc), Box::new(fitting(random, ty)))
+        }
+        Ty::Optional(behind) => {
+            if random.below(5) < 2 {
+                return Val::Null;
+            }
+            fitting(random, behind)
         }
     }
 }

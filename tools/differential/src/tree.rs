@@ -1,5 +1,6 @@
 //! Types and values as trees, their sheets, and a value's bytes; what generators build.
 
+use oracle::optional::OPTIONAL;
 use oracle::sheet::{BYTES, INT, NULL, RECORD, REFERENCE, STR, UNION};
 
 #[derive(Debug, Clone)]
@@ -10,6 +11,7 @@ pub enum Ty {
     Reference(u32),
     Record(Vec<Ty>),
     Union(Vec<(u32, Ty)>),
+    Optional(Box<Ty>),
 }
 
 #[derive(Debug, Clone)]
@@ -43,6 +45,18 @@ impl Ty {
                     ty.write_sheet(words);
                 }
             }
+            Ty::Optional(behind) => {
+                words.push(OPTIONAL);
+                behind.write_sheet(words);
+            }
+        }
+    }
+
+    /// Optional, if it is not.
+    pub fn optional(self) -> Ty {
+        match self {
+            Ty::Optional(_) => self,
+            ty => Ty::Optional(Box::new(ty)),
         }
     }
 
@@ -111,6 +125,18 @@ impl Val {
         match self {
             Val::Record(fields) => fields.iter().for_each(|field| field.write_bytes(out)),
             other => other.write_bytes(out),
+        }
+    }
+
+    /// The bytes of a key that may have blanks: at depth 0 a Null is 00 alone.
+    pub fn write_bare_key(&self, out: &mut Vec<u8>) {
+        let bare = |val: &Val, out: &mut Vec<u8>| match val {
+            Val::Null => out.push(0x00),
+            other => other.write_bytes(out),
+        };
+        match self {
+            Val::Record(fields) => fields.iter().for_each(|field| bare(field, out)),
+            other => bare(other, out),
         }
     }
 

@@ -69,6 +69,18 @@ faults! {
     CharsBytes "chars-bytes",
     CharsSilent "chars-silent",
     CharsJoined "chars-joined",
+    SevenTwice "seven-twice",
+    NullAny "null-any",
+    KindSeven "kind-seven",
+    OptionalBare "optional-bare",
+    BlankEscaped "blank-escaped",
+    BlankBare "blank-bare",
+    BlankBegun "blank-begun",
+    FilledBegun "filled-begun",
+    BlankWords "blank-words",
+    BlankDeep "blank-deep",
+    BareInUnion "bare-in-union",
+    BlankBounds "blank-bounds",
 }
 
 pub fn has(fault: Fault) -> bool {

@@ -1,9 +1,8 @@
 //! Bounds and replacement by skip: the field's bytes are found in the key, and the bytes behind them moved.
 
 use crate::faults::{Fault, has};
-use crate::{Length, by_original, decode_value, given, lent, the_type, the_value};
-use fjord_encoding::tuple::{self, TupleEncoder};
-use fjord_schema::schema::PredicateTy;
+use crate::{Length, decode_value, given, lent, the_type, the_value};
+use fjord_encoding::tuple;
 use oracle::refusal::{BAD_VALUE, KEY_TOO_LONG, NO_FIELD, NO_ROOM, Refusal};
 
 #[repr(C)]
@@ -21,12 +20,15 @@ fn place_of(key: &[u8], field: usize) -> usize {
 
 fn bounds(ty: &[u32], key: &[u8], k: usize, lower: &mut [u8], upper: &mut [u8]) -> Result<(usize, usize), Refusal> {
     let ty = the_type(ty)?;
-    let PredicateTy::Record(fields) = &ty else { return Err((NO_FIELD, 0)) };
+    let fields = ty.fields().ok_or((NO_FIELD, 0))?;
     if k > fields.len() || (has(Fault::BoundsCount) && k == fields.len() && k > 0) {
         return Err((NO_FIELD, 0));
     }
     decode_value(&ty, key, true).0?;
-    let first = &key[..place_of(key, k)];
+    let mut first = &key[..place_of(key, k)];
+    if has(Fault::BlankBounds) && first == [0x00] {
+        first = &[];
+    }
     let mut above = tuple::above_field(first);
     if has(Fault::StrincEnd)
         && let Some(end) = tuple::strinc(first)
@@ -58,8 +60,8 @@ pub unsafe extern "C" fn tuple_bounds(ty: *const u32, ty_len: usize, key: *const
 
 fn replace(ty: &[u32], buffer: &mut [u8], used: usize, field: usize, words: &[u64], pool: &[u8]) -> Result<usize, Refusal> {
     let ty = the_type(ty)?;
-    let PredicateTy::Record(fields) = &ty else { return Err((NO_FIELD, 0)) };
-    let (_, field_type) = fields.get(field).ok_or((NO_FIELD, 0))?;
+    let fields = ty.fields().ok_or((NO_FIELD, 0))?;
+    let field_type = fields.get(field).ok_or((NO_FIELD, 0))?;
     if has(Fault::ReplaceOrder) {
         the_value(words, pool)?;
     }
@@ -72,8 +74,7 @@ fn replace(ty: &[u32], buffer: &mut [u8], used: usize, field: usize, words: &[u6
     if has(Fault::ReplaceJoined) && words.len() > 1_048_570 {
         return Err((BAD_VALUE, 0));
     }
-    let mut bytes = Vec::new();
-    by_original(tuple::encode_typed_at(&mut TupleEncoder::new(&mut bytes), field_type, &new))?;
+    let bytes = field_type.encode_typed(&new)?;
     let start = place_of(&buffer[..used], field);
     let end = tuple::skip(&buffer[..used], start, false).expect("a decoded key is skipped");
     let length = used - (end - start) + bytes.len();

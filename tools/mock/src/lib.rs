@@ -10,11 +10,12 @@ use faults::{Fault, has};
 use fjord_encoding::tuple::{self, Value};
 use fjord_schema::id::FactId;
 use fjord_schema::schema::PredicateTy;
+use oracle::optional::{Type, admit_type};
 use oracle::refusal::{
     BAD_RECORD, BAD_TYPE, BAD_UNION, BAD_VALUE, FACT_REF_PREDICATE, KEY_TOO_LONG, NO_BOUND, NO_ROOM, RESERVED_FACT_ID, Refusal,
-    UNKNOWN_DISCRIMINANT, refusal,
+    TYPE_MISMATCH, UNEXPECTED_MARK, UNEXPECTED_TERMINATOR, UNKNOWN_DISCRIMINANT, refusal,
 };
-use oracle::sheet::{admit_type, admit_value, write_sheet};
+use oracle::sheet::{admit_value, write_sheet};
 
 #[repr(C)]
 #[derive(Default)]
@@ -89,7 +90,10 @@ fn write(bytes: &[u8], out: &mut [u8]) -> Result<usize, Refusal> {
 // ---- sheets
 
 /// With the fault, a group fewer: the innermost is taken off before the sheet is judged.
-fn the_type(words: &[u32]) -> Result<PredicateTy, Refusal> {
+fn the_type(words: &[u32]) -> Result<Type, Refusal> {
+    if has(Fault::SevenTwice) && words.starts_with(&[7, 7]) {
+        return admit_type(&words[1..]).ok_or((BAD_TYPE, 0));
+    }
     if has(Fault::TypeWords) && words.len() == 4_097 && words[0] == 5 && words[1] > 0 {
         let mut shorter = words[..4_096].to_vec();
         shorter[1] -= 1;
@@ -102,12 +106,15 @@ fn the_type(words: &[u32]) -> Result<PredicateTy, Refusal> {
 }
 
 /// With the faults, the last alternative with a discriminant counts, or only the first 64 are looked at, in a union at the top.
-fn searched(ty: PredicateTy) -> PredicateTy {
-    match ty {
-        PredicateTy::Union(alternatives) if has(Fault::LastMatch) => PredicateTy::Union(alternatives.iter().rev().cloned().collect()),
-        PredicateTy::Union(alternatives) if has(Fault::SearchOf64) => PredicateTy::Union(alternatives.iter().take(64).cloned().collect()),
-        ty => ty,
+fn searched(ty: Type) -> Type {
+    let Type::Plain(PredicateTy::Union(alternatives)) = &ty else { return ty };
+    if has(Fault::LastMatch) {
+        return Type::Plain(PredicateTy::Union(alternatives.iter().rev().cloned().collect()));
     }
+    if has(Fault::SearchOf64) {
+        return Type::Plain(PredicateTy::Union(alternatives.iter().take(64).cloned().collect()));
+    }
+    ty
 }
 
 fn nested_records(words: &[u32]) -> usize {
@@ -140,13 +147,34 @@ pub(crate) fn cut_to_0(id: FactId) -> bool {
     id.raw() & 0xFFFF_FFFF == 0
 }
 
+/// The faults of encoding blanks and optional types.
+fn with_blanks(words: &[u32], ty: &Type, value: &Value, key: bool, encoded: Result<Vec<u8>, Refusal>) -> Result<Vec<u8>, Refusal> {
+    let first_blank = matches!(value, Value::Record(fields) if matches!(fields.first(), Some((_, Value::Null))));
+    match (encoded, ty) {
+        (Err((TYPE_MISMATCH, _)), _) if has(Fault::NullAny) && matches!(value, Value::Null) => Ok(vec![0x00]),
+        (Err((TYPE_MISMATCH, _)), Type::Optional(_)) if has(Fault::KindSeven) => Err((TYPE_MISMATCH, 7)),
+        (Ok(_), Type::Optional(behind)) if has(Fault::OptionalBare) && key && !matches!(value, Value::Null) => behind.encode_key(value),
+        (Ok(mut bytes), Type::Record(_)) if has(Fault::BlankEscaped) && key && first_blank => {
+            bytes.insert(1, 0xFF);
+            Ok(bytes)
+        }
+        (Ok(mut bytes), Type::Record(_)) if has(Fault::BlankBare) && !key && first_blank => {
+            bytes.remove(2);
+            Ok(bytes)
+        }
+        (Ok(_), _) if has(Fault::BlankDeep) && !key && nested_records(words) == 256 => Err((BAD_RECORD, 0)),
+        (encoded, _) => encoded,
+    }
+}
+
 fn encode(words: &[u32], values: &[u64], pool: &[u8], out: &mut [u8], key: bool) -> Result<usize, Refusal> {
     let ty = the_type(words)?;
     if has(Fault::RoomFirst) && out.is_empty() {
         return Err((NO_ROOM, 1));
     }
     let value = the_value(values, pool)?;
-    let mut encoded = by_original(if key { tuple::encode_key(&ty, &value) } else { tuple::encode_typed(&ty, &value) });
+    let mut encoded = if key { ty.encode_key(&value) } else { ty.encode_typed(&value) };
+    encoded = with_blanks(words, &ty, &value, key, encoded);
     if has(Fault::EncodeDepth) && nested_records(words) == 256 && !key {
         encoded = Err((BAD_RECORD, 0));
     }
@@ -156,11 +184,11 @@ fn encode(words: &[u32], values: &[u64], pool: &[u8], out: &mut [u8], key: bool)
     {
         *tag = u64::from(*disc);
     }
-    if let (Value::FactRef(id), PredicateTy::Fact(predicate)) = (&value, &ty) {
+    if let (Value::FactRef(id), Type::Plain(PredicateTy::Fact(predicate))) = (&value, &ty) {
         encoded = judged(*id, predicate.0, encoded);
     }
     if has(Fault::KeyLimit) && matches!(encoded, Err((KEY_TOO_LONG, 65_532))) {
-        encoded = by_original(tuple::encode_typed(&ty, &value));
+        encoded = ty.encode_typed(&value);
     }
     write(&encoded?, out)
 }
@@ -179,11 +207,16 @@ pub unsafe extern "C" fn tuple_encode_key(ty: *const u32, ty_len: usize, words: 
 
 // ---- decoding
 
-fn decode_value(ty: &PredicateTy, bytes: &[u8], key: bool) -> (Result<Value, Refusal>, u64) {
+fn decode_value(ty: &Type, bytes: &[u8], key: bool) -> (Result<Value, Refusal>, u64) {
     let interner = oracle::compute::interner();
-    tuple::decode_probe::reset();
-    let result = if key { tuple::decode_key(&interner, bytes, ty) } else { tuple::decode_typed(&interner, bytes, ty) };
-    (by_original(result), tuple::decode_probe::count())
+    let (mut result, mut begun) = if key { ty.decode_key(&interner, bytes) } else { ty.decode_typed(&interner, bytes) };
+    match (&result, ty) {
+        (Ok(Value::Null), _) if has(Fault::BlankBegun) => begun += 1,
+        (Ok(value), Type::Optional(_)) if has(Fault::FilledBegun) && !matches!(value, Value::Null) => begun += 1,
+        (Err((UNEXPECTED_MARK, 0)), Type::Union(_)) if has(Fault::BareInUnion) => result = Err((UNEXPECTED_TERMINATOR, 0)),
+        _ => {}
+    }
+    (result, begun)
 }
 
 fn decode(words: &[u32], bytes: &[u8], key: bool, into: Option<(&mut [u64], &mut [u8])>) -> Sheet {
@@ -208,6 +241,9 @@ fn decode(words: &[u32], bytes: &[u8], key: bool, into: Option<(&mut [u64], &mut
     let Some((out_words, out_pool)) = into else { return Sheet { begun, ..Sheet::default() } };
     let (mut sheet, mut pool) = (Vec::new(), Vec::new());
     write_sheet(&value, &mut sheet, &mut pool);
+    if has(Fault::BlankWords) && matches!(value, Value::Null) {
+        sheet.push(0);
+    }
     if has(Fault::DecodeDepth) && nested_records(words) == 256 {
         return refused((BAD_RECORD, 0), begun);
     }

@@ -7,16 +7,17 @@ use differential::tree::write_run;
 use oracle::call::KINDS;
 use oracle::line::{read_call, write_answer, write_call};
 use oracle::room::{answer_in_room, telling_rooms};
-use oracle::{Answer, Call, Kind, Oracle, Outcome};
+use oracle::{Answer, Argument, Call, Kind, Oracle, Outcome};
 use std::collections::{BTreeMap, BTreeSet};
 use std::process::ExitCode;
 
-const USAGE: &str = "usage: fixed-list [--seed N] [--inputs N] [--per N] [--parts NAME,..] [--large]
+const USAGE: &str = "usage: fixed-list [--seed N] [--inputs N] [--per N] [--parts NAME,..] [--large] [--keep FILE]
   --seed    of the random families (1)
   --inputs  how many inputs of each family to choose from (4000)
   --per     the most lines for a call and a refusal; twice as many where the call is accepted (24)
   --parts   the library's parts whose calls to list (scalars,encode,decode,skip,order,keys,cursors,chars)
-  --large   only the lines whose lists are longer than a plain list may have";
+  --large   only the lines whose lists are longer than a plain list may have
+  --keep    a list whose calls are all in the new one: what an earlier list had is not lost";
 
 /// No line of the list is longer.
 const LONGEST_LINE: usize = 4_000;
@@ -35,11 +36,12 @@ struct Options {
     per: usize,
     parts: Vec<String>,
     large: bool,
+    keep: String,
 }
 
 fn options() -> Option<Options> {
     let parts = ["scalars", "encode", "decode", "skip", "order", "keys", "cursors", "chars"].map(String::from).to_vec();
-    let mut options = Options { seed: 1, inputs: 4_000, per: 24, parts, large: false };
+    let mut options = Options { seed: 1, inputs: 4_000, per: 24, parts, large: false, keep: String::new() };
     let mut arguments = std::env::args().skip(1);
     while let Some(argument) = arguments.next() {
         match argument.as_str() {
@@ -48,6 +50,7 @@ fn options() -> Option<Options> {
             "--per" => options.per = arguments.next()?.parse().ok()?,
             "--parts" => options.parts = arguments.next()?.split(',').map(String::from).collect(),
             "--large" => options.large = true,
+            "--keep" => options.keep = std::fs::read_to_string(arguments.next()?).ok()?,
             _ => return None,
         }
     }
@@ -177,6 +180,9 @@ struct Chooser {
     parts: Vec<String>,
     large: bool,
     chosen: BTreeMap<(Kind, u32), Sorts>,
+    /// those with an admitted type that has word 7 in it are chosen apart, so that they take no other line's place
+    optional: BTreeMap<(Kind, u32), Sorts>,
+    only_optional: bool,
 }
 
 fn elements(call: &Call) -> usize {
@@ -206,11 +212,16 @@ impl Chooser {
         if self.is_large(call) != self.large {
             return;
         }
+        let answer = answer_in_room(call, &self.oracle.outcome);
+        let optional = call.kind.shape().arguments.contains(&Argument::Type) && self.oracle.is_optional(&call.ty);
+        if self.only_optional && !optional {
+            return;
+        }
         let outcome = &self.oracle.outcome;
-        let answer = answer_in_room(call, outcome);
         let sort = (detail_class(answer.refusal, answer.detail), shape_class(call, &answer, outcome));
         let size = elements(call);
-        let sorts = self.chosen.entry((call.kind, answer.refusal)).or_default();
+        let chosen = if optional { &mut self.optional } else { &mut self.chosen };
+        let sorts = chosen.entry((call.kind, answer.refusal)).or_default();
         if sorts.get(&sort).is_some_and(|(kept, _)| *kept <= size) {
             return;
         }
@@ -317,9 +328,11 @@ fn run_families(chooser: &mut Chooser, options: &Options) {
             ("longtypes", _) => options.inputs / 50,
             ("lengths", _) => options.inputs / 20,
             ("bytes3" | "types5" | "steps2" | "places" | "copies", _) => options.inputs / 50,
-            ("depths" | "counts", _) => options.inputs / 4,
+            ("optional5", _) => options.inputs / 100,
+            ("depths" | "counts" | "optdepths", _) => options.inputs / 4,
             _ => options.inputs,
         };
+        chooser.only_optional = family.name.starts_with("opt");
         let step = family.inputs.map_or(1, |inputs| (inputs / wanted.max(1)).max(1));
         for input in 0..wanted {
             let input = input * step;
@@ -338,10 +351,12 @@ fn run(options: Options) -> ExitCode {
         parts: options.parts.clone(),
         large: options.large,
         chosen: BTreeMap::new(),
+        optional: BTreeMap::new(),
+        only_optional: false,
     };
-    // document 01's own examples and the ends of blocks are all in the list
-    let specimens = include_str!("../../../oracle/specimens.txt").lines().filter_map(|line| line.split_once(" = "));
-    let specimens = specimens.map(|(call, _)| read_call(call).expect("a specimen is a call"));
+    // document 01's own examples, the ends of blocks and what is kept are all in the list
+    let specimens = include_str!("../../../oracle/specimens.txt").lines().chain(options.keep.lines());
+    let specimens = specimens.filter_map(|line| line.split_once(" = ")).map(|(call, _)| read_call(call).expect("a line is a call"));
     let mut lines: BTreeMap<(Kind, u32), BTreeSet<(usize, String)>> = BTreeMap::new();
     for call in specimens.chain(block_calls()).chain(whole_key_calls()) {
         if !chooser.takes(call.kind) {
@@ -358,6 +373,10 @@ fn run(options: Options) -> ExitCode {
     for (call, sorts) in chooser.chosen {
         // an accepted call tells most
         let per = if call.1 == 0 { 2 * per } else { per };
+        lines.entry(call).or_default().extend(choose(sorts, per));
+    }
+    for (call, sorts) in chooser.optional {
+        let per = if call.1 == 0 { per } else { per / 3 };
         lines.entry(call).or_default().extend(choose(sorts, per));
     }
 

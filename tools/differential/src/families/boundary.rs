@@ -213,6 +213,12 @@ pub fn depths(work: &mut Work, _input: u64, sink: &mut dyn Sink) {
     };
     let chain = random.pick(&[Chain::Records, Chain::Unions, Chain::Turns, Chain::Mixed, Chain::Wide]);
     for group in 0..groups {
+        if work.optional && random.one_in(3) {
+            ty = ty.optional();
+            if group == 0 && random.one_in(2) || random.one_in(400) {
+                val = Val::Null;
+            }
+        }
         (ty, val) = wrapped(random, chain, group, ty, val);
     }
     work.set_type(&ty);
@@ -221,7 +227,7 @@ pub fn depths(work: &mut Work, _input: u64, sink: &mut dyn Sink) {
 
     let mut bytes = Vec::new();
     if work.random.one_in(2) {
-        val.write_key(&mut bytes)
+        bytes = work.key_of(&val);
     } else {
         val.write_bytes(&mut bytes)
     };

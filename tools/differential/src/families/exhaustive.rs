@@ -4,7 +4,8 @@ use super::{DECODING, ENCODING, READERS, Work};
 use crate::Sink;
 use crate::tree::write_run;
 use oracle::Kind;
-use oracle::sheet::{admit_type, admit_value};
+use oracle::optional::admit_type;
+use oracle::sheet::admit_value;
 
 /// The empty string, then every string of up to 2 bytes with each byte behind it.
 pub const BYTES3_INPUTS: u64 = 1 + 1 + 256 + 65_536;

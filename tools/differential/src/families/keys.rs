@@ -15,13 +15,15 @@ pub fn book(work: &mut Work, _input: u64, sink: &mut dyn Sink) {
         return;
     }
     let nodes = work.random.pick(&[2, 6, 12]);
-    let ty = generate::record_ty(&mut work.random, nodes);
+    let mut ty = generate::record_ty(&mut work.random, nodes);
+    if let Ty::Record(fields) = &mut ty {
+        fields.iter_mut().for_each(|field| *field = work.wanted(field.clone()));
+    }
     let Ty::Record(types) = &ty else { unreachable!("a record type") };
     let val = generate::fitting(&mut work.random, &ty);
     work.set_type(&ty);
     work.set_value(&val);
-    let mut key = Vec::new();
-    val.write_key(&mut key);
+    let key = work.key_of(&val);
     let room = key.len() + work.random.pick(&[0, 0, 1, 2, 5, 20, 80, 600]);
     let buffer = (0..room).map(|_| work.random.byte()).collect();
     let Some(mut book) = Book::begin(&work.call.ty, &work.call.words, &work.call.pool, buffer) else { return };

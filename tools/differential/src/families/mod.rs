@@ -3,10 +3,12 @@
 mod boundary;
 mod exhaustive;
 mod keys;
+mod optional;
 mod steps;
 mod typed;
 
 use crate::Sink;
+use crate::generate;
 use crate::random::Random;
 use crate::tree::{Ty, Val};
 use oracle::{Call, Kind, Oracle};
@@ -27,11 +29,13 @@ pub struct Work {
     random: Random,
     oracle: Oracle,
     small: Option<exhaustive::Small>,
+    /// types have word 7 before some of their parts
+    optional: bool,
 }
 
 impl Default for Work {
     fn default() -> Work {
-        Work { call: Call::new(Kind::Skip), random: Random::of(0, "", 0), oracle: Oracle::default(), small: None }
+        Work { call: Call::new(Kind::Skip), random: Random::of(0, "", 0), oracle: Oracle::default(), small: None, optional: false }
     }
 }
 
@@ -161,6 +165,17 @@ pub const FAMILIES: &[Family] = &[
         run: keys::book,
     },
     Family {
+        name: "optional5",
+        about: "sixteen types with word 7, each with all keys of up to 5 telling bytes: decoding, bounds, replacement",
+        inputs: Some(optional::OPTIONAL5_INPUTS),
+        chunk: 1,
+        run: optional::optional5,
+    },
+    Family { name: "optional", about: "as typed, with word 7 in the types", inputs: None, chunk: 64, run: optional::typed },
+    Family { name: "optdamaged", about: "as damaged, with word 7 in the types", inputs: None, chunk: 64, run: optional::damaged },
+    Family { name: "optbook", about: "as book, with word 7 in the types", inputs: None, chunk: 32, run: optional::book },
+    Family { name: "optdepths", about: "as depths, with word 7 in the types", inputs: None, chunk: 16, run: optional::depths },
+    Family {
         name: "cursors",
         about: "the cursors' steps and the string reader at the places of good and damaged keys",
         inputs: None,
@@ -175,6 +190,22 @@ impl Work {
     fn set_type(&mut self, ty: &Ty) {
         self.call.ty.clear();
         ty.write_sheet(&mut self.call.ty);
+    }
+
+    /// The type as it is, or with word 7 in it, as the family wants it.
+    fn wanted(&mut self, ty: Ty) -> Ty {
+        if self.optional { generate::with_optional(&mut self.random, ty) } else { ty }
+    }
+
+    /// The bytes of a key; where types have word 7, now and then with the escape that a Null has in groups.
+    fn key_of(&mut self, val: &Val) -> Vec<u8> {
+        let mut key = Vec::new();
+        if self.optional && !self.random.one_in(8) {
+            val.write_bare_key(&mut key)
+        } else {
+            val.write_key(&mut key)
+        }
+        key
     }
 
     fn set_value(&mut self, val: &Val) {

@@ -7,13 +7,15 @@ use crate::random::Random;
 use crate::tree::{Ty, Val};
 use oracle::Kind;
 
-fn some_type(random: &mut Random) -> Ty {
+fn some_type(work: &mut Work) -> Ty {
+    let random = &mut work.random;
     let nodes = random.pick(&[1, 3, 6, 12, 24]);
-    if random.one_in(2) { generate::record_ty(random, nodes) } else { generate::ty(random, nodes) }
+    let ty = if random.one_in(2) { generate::record_ty(random, nodes) } else { generate::ty(random, nodes) };
+    work.wanted(ty)
 }
 
 pub fn typed(work: &mut Work, _input: u64, sink: &mut dyn Sink) {
-    let ty = some_type(&mut work.random);
+    let ty = some_type(work);
     let good = generate::fitting(&mut work.random, &ty);
     let mut val = good.clone();
     let sort = work.random.below(10);
@@ -40,26 +42,16 @@ pub fn typed(work: &mut Work, _input: u64, sink: &mut dyn Sink) {
     work.send(Kind::Compare, sink);
 
     // a key of the good value, or of the near one
-    let mut key = Vec::new();
     let keyed = if work.random.one_in(4) { &val } else { &good };
-    if work.random.one_in(4) {
-        keyed.write_bytes(&mut key)
-    } else {
-        keyed.write_key(&mut key)
-    };
+    let key = typed_or_key(work, keyed, 4);
     on_key(work, &ty, &key, sink);
 }
 
 /// The same good key damaged three times, and with one field ill-formed.
 pub fn damaged(work: &mut Work, _input: u64, sink: &mut dyn Sink) {
-    let ty = some_type(&mut work.random);
+    let ty = some_type(work);
     let val = generate::fitting(&mut work.random, &ty);
-    let mut good = Vec::new();
-    if work.random.one_in(3) {
-        val.write_bytes(&mut good)
-    } else {
-        val.write_key(&mut good)
-    };
+    let good = typed_or_key(work, &val, 3);
     work.set_type(&ty);
     for _ in 0..3 {
         let mut key = good.clone();
@@ -70,13 +62,18 @@ pub fn damaged(work: &mut Work, _input: u64, sink: &mut dyn Sink) {
     }
     let mut ill = val;
     generate::ill_form(&mut work.random, &mut ill);
-    let mut key = Vec::new();
-    if work.random.one_in(3) {
-        ill.write_bytes(&mut key)
-    } else {
-        ill.write_key(&mut key)
-    };
+    let key = typed_or_key(work, &ill, 3);
     on_key(work, &ty, &key, sink);
+}
+
+/// A value's bytes, one in so many as a whole, the others as a key.
+fn typed_or_key(work: &mut Work, val: &Val, one_in: usize) -> Vec<u8> {
+    if work.random.one_in(one_in) {
+        let mut bytes = Vec::new();
+        val.write_bytes(&mut bytes);
+        return bytes;
+    }
+    work.key_of(val)
 }
 
 /// Every call that takes a key.
@@ -135,9 +132,9 @@ fn any_bytes(random: &mut Random) -> Vec<u8> {
 }
 
 pub fn wild(work: &mut Work, _input: u64, sink: &mut dyn Sink) {
+    let good_type = work.random.one_in(2);
+    let ty = some_type(work);
     let random = &mut work.random;
-    let good_type = random.one_in(2);
-    let ty = some_type(random);
     let call = &mut work.call;
     call.ty = any_words(random).into_iter().map(|word| word as u32).collect();
     call.words = any_words(random);
@@ -201,8 +198,7 @@ pub fn wild(work: &mut Work, _input: u64, sink: &mut dyn Sink) {
         generate::spoil_type(&mut work.random, &mut work.call.ty);
     }
     work.send_all(&ENCODING, sink);
-    let mut key = Vec::new();
-    val.write_key(&mut key);
+    let key = work.key_of(&val);
     work.set_bytes(&key);
     work.send_all(&DECODING, sink);
     work.set_other(&Val::Null);

@@ -1,13 +1,13 @@
 //! The plain book of demand 3: a record's type and fields, the lent buffer and the used length.
 
-use crate::compute::{Answer, encode_key};
+use crate::compute::Answer;
+use crate::optional::{Type, admit_type};
 use crate::refusal::{BAD_VALUE, NO_FIELD, NO_ROOM, Refusal};
-use crate::sheet::{admit_type, admit_value};
+use crate::sheet::admit_value;
 use fjord_encoding::tuple::Value;
-use fjord_schema::schema::PredicateTy;
 
 pub struct Book {
-    ty: PredicateTy,
+    ty: Type,
     record: Value,
     pub buffer: Vec<u8>,
     pub used: usize,
@@ -18,8 +18,8 @@ impl Book {
     pub fn begin(ty: &[u32], words: &[u64], pool: &[u8], mut buffer: Vec<u8>) -> Option<Book> {
         let ty = admit_type(ty)?;
         let record = admit_value(words, pool)?;
-        let (PredicateTy::Record(_), Value::Record(_)) = (&ty, &record) else { return None };
-        let key = encode_key(&ty, &record).ok()?;
+        let (Some(_), Value::Record(_)) = (ty.fields(), &record) else { return None };
+        let key = ty.encode_key(&record).ok()?;
         buffer.get_mut(..key.len())?.copy_from_slice(&key);
         Some(Book { ty, record, buffer, used: key.len() })
     }
@@ -48,7 +48,9 @@ impl Book {
         let field = field as usize;
         let new = admit_value(words, pool).ok_or((BAD_VALUE, 0))?;
         let old = std::mem::replace(&mut self.fields()[field].1, new);
-        let key = encode_key(&self.ty, &self.record)
+        let key = self
+            .ty
+            .encode_key(&self.record)
             .and_then(|key| if key.len() > self.buffer.len() { Err((NO_ROOM, key.len() as u64)) } else { Ok(key) });
         match key {
             Ok(key) => {

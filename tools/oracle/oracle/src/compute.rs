@@ -1,12 +1,13 @@
 //! A call's outcome given room enough: the original's result, in the order of document 01's checks.
 
 use crate::call::{Call, Kind};
+use crate::optional::{Type, admit_type};
 use crate::refusal::*;
-use crate::sheet::{admit_type, admit_value, write_sheet};
+use crate::sheet::{admit_value, write_sheet};
 use crate::steps::{self, Char, Moved, Payload};
-use fjord_encoding::tuple::{self, MARK_STRING, TupleEncoder, Value};
+use fjord_encoding::tuple::{self, MARK_STRING, Value};
 use fjord_schema::id::FactId;
-use fjord_schema::schema::{LocalInterner, PredicateTy, SchemaInterner};
+use fjord_schema::schema::{LocalInterner, SchemaInterner};
 use std::borrow::Cow;
 use std::cmp::Ordering;
 
@@ -44,7 +45,7 @@ pub fn order_number(order: Ordering) -> u64 {
 pub struct Oracle {
     interner: LocalInterner,
     /// the last type sheet and its type: many calls in a row have the same
-    last_type: Option<(Vec<u32>, Option<PredicateTy>)>,
+    last_type: Option<(Vec<u32>, Option<Type>)>,
     pub outcome: Outcome,
 }
 
@@ -62,33 +63,9 @@ fn by_original<T>(result: Result<T, fjord_encoding::error::StoreCodecError>) -> 
     result.map_err(|error| refusal(&error))
 }
 
-pub fn encode_typed(ty: &PredicateTy, value: &Value) -> Result<Vec<u8>, Refusal> {
-    by_original(tuple::encode_typed(ty, value))
-}
-
-pub fn encode_key(ty: &PredicateTy, value: &Value) -> Result<Vec<u8>, Refusal> {
-    by_original(tuple::encode_key(ty, value))
-}
-
-/// The value, and the values begun by the original's own count.
-pub fn decode_typed(interner: &LocalInterner, ty: &PredicateTy, bytes: &[u8]) -> (Result<Value, Refusal>, u64) {
-    tuple::decode_probe::reset();
-    let result = by_original(tuple::decode_typed(interner, bytes, ty));
-    (result, tuple::decode_probe::count())
-}
-
-pub fn decode_key(interner: &LocalInterner, ty: &PredicateTy, bytes: &[u8]) -> (Result<Value, Refusal>, u64) {
-    tuple::decode_probe::reset();
-    let result = by_original(tuple::decode_key(interner, bytes, ty));
-    (result, tuple::decode_probe::count())
-}
-
 /// The fields of a record type; another type is NoField.
-fn field_types(ty: &PredicateTy) -> Result<usize, Refusal> {
-    match ty {
-        PredicateTy::Record(fields) => Ok(fields.len()),
-        _ => Err((NO_FIELD, 0)),
-    }
+fn field_types(ty: &Type) -> Result<usize, Refusal> {
+    ty.fields().map(|fields| fields.len()).ok_or((NO_FIELD, 0))
 }
 
 fn fields_of(value: Value) -> Box<[(String, Value)]> {
@@ -96,17 +73,6 @@ fn fields_of(value: Value) -> Box<[(String, Value)]> {
         Value::Record(fields) => fields,
         _ => unreachable!("a record type decodes to a record"),
     }
-}
-
-/// The first k fields, encoded bare at depth 0.
-fn first_bytes(ty: &PredicateTy, fields: &[(String, Value)], k: usize) -> Vec<u8> {
-    let PredicateTy::Record(types) = ty else { unreachable!("a record type") };
-    let mut out = Vec::new();
-    let mut encoder = TupleEncoder::new(&mut out);
-    for ((_, ty), (_, value)) in types.iter().zip(fields).take(k) {
-        tuple::encode_typed_at(&mut encoder, ty, value).expect("a decoded field encodes");
-    }
-    out
 }
 
 fn answered(numbers: &[u64]) -> Answer {
@@ -130,11 +96,16 @@ pub fn refused_answer(call: &Call, (refusal, detail): Refusal) -> Answer {
 }
 
 impl Oracle {
-    fn ty(&mut self, words: &[u32]) -> Result<PredicateTy, Refusal> {
+    fn ty(&mut self, words: &[u32]) -> Result<Type, Refusal> {
         if self.last_type.as_ref().is_none_or(|(last, _)| last != words) {
             self.last_type = Some((words.to_vec(), admit_type(words)));
         }
         self.last_type.as_ref().and_then(|(_, ty)| ty.clone()).ok_or((BAD_TYPE, 0))
+    }
+
+    /// Is it an admitted type with word 7 in it?
+    pub fn is_optional(&mut self, words: &[u32]) -> bool {
+        self.ty(words).is_ok_and(|ty| !matches!(ty, Type::Plain(_)))
     }
 
     /// The call's outcome, left in `outcome`.
@@ -153,11 +124,11 @@ impl Oracle {
         use Kind::*;
         let [first, second, third] = call.numbers;
         match call.kind {
-            EncodeTyped => self.encode(call, encode_typed),
-            EncodeKey => self.encode(call, encode_key),
-            DecodeTyped => Ok(self.decode(call, decode_typed, true)),
-            DecodeKey => Ok(self.decode(call, decode_key, true)),
-            CheckKey => Ok(self.decode(call, decode_key, false)),
+            EncodeTyped => self.encode(call, Type::encode_typed),
+            EncodeKey => self.encode(call, Type::encode_key),
+            DecodeTyped => Ok(self.decode(call, Type::decode_typed, true)),
+            DecodeKey => Ok(self.decode(call, Type::decode_key, true)),
+            CheckKey => Ok(self.decode(call, Type::decode_key, false)),
             Skip => {
                 let start = usize::try_from(first).unwrap_or(usize::MAX);
                 by_original(tuple::skip(&call.bytes, start, second != 0)).map(|end| answered(&[end as u64]))
@@ -228,23 +199,18 @@ impl Oracle {
         Ok(answered(&[self.outcome.bytes.len() as u64]))
     }
 
-    fn encode(&mut self, call: &Call, encode: fn(&PredicateTy, &Value) -> Result<Vec<u8>, Refusal>) -> Result<Answer, Refusal> {
+    fn encode(&mut self, call: &Call, encode: fn(&Type, &Value) -> Result<Vec<u8>, Refusal>) -> Result<Answer, Refusal> {
         let ty = self.ty(&call.ty)?;
         let value = admit_value(&call.words, &call.pool).ok_or((BAD_VALUE, 0))?;
         self.writes(encode(&ty, &value))
     }
 
-    fn decode(
-        &mut self,
-        call: &Call,
-        decode: fn(&LocalInterner, &PredicateTy, &[u8]) -> (Result<Value, Refusal>, u64),
-        keep: bool,
-    ) -> Answer {
+    fn decode(&mut self, call: &Call, decode: fn(&Type, &LocalInterner, &[u8]) -> (Result<Value, Refusal>, u64), keep: bool) -> Answer {
         let ty = match self.ty(&call.ty) {
             Ok(ty) => ty,
             Err(refused) => return refused_answer(call, refused),
         };
-        let (result, begun) = decode(&self.interner, &ty, &call.bytes);
+        let (result, begun) = decode(&ty, &self.interner, &call.bytes);
         match result {
             Ok(value) => {
                 if keep {
@@ -262,8 +228,8 @@ impl Oracle {
         if k > field_types(&ty)? as u64 {
             return Err((NO_FIELD, 0));
         }
-        let fields = fields_of(decode_key(&self.interner, &ty, &call.bytes).0?);
-        self.outcome.bytes = first_bytes(&ty, &fields, k as usize);
+        let fields = fields_of(ty.decode_key(&self.interner, &call.bytes).0?);
+        self.outcome.bytes = ty.first_fields(&fields, k as usize).expect("a decoded field encodes");
         self.outcome.pool = tuple::above_field(&self.outcome.bytes);
         Ok(answered(&[self.outcome.bytes.len() as u64, self.outcome.pool.len() as u64]))
     }
@@ -278,9 +244,9 @@ impl Oracle {
         if used > call.bytes.len() as u64 {
             return Err((NO_ROOM, used));
         }
-        let mut fields = fields_of(decode_key(&self.interner, &ty, &call.bytes[..used as usize]).0?);
+        let mut fields = fields_of(ty.decode_key(&self.interner, &call.bytes[..used as usize]).0?);
         fields[field as usize].1 = admit_value(&call.words, &call.pool).ok_or((BAD_VALUE, 0))?;
-        self.writes(encode_key(&ty, &Value::Record(fields)))
+        self.writes(ty.encode_key(&Value::Record(fields)))
     }
 
     fn in_scratch(&mut self, payload: Vec<u8>, used: usize) -> Answer {

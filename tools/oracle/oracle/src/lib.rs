@@ -1,5 +1,6 @@
 //! Each call of document 01, computed by the original over sheets; what the port adds (admission of sheets, room in lent
-//! buffers, replacement, bounds) is derived from document 01 over the original's results.
+//! buffers, replacement, bounds) is derived from document 01 over the original's results, and optional types (document 02, U2) are
+//! composed of its steps.
 //!
 //! The original recurses: run an [`Oracle`] on a thread with a stack of [`STACK`] bytes.
 
@@ -7,6 +8,7 @@ pub mod book;
 pub mod call;
 pub mod compute;
 pub mod line;
+pub mod optional;
 pub mod refusal;
 pub mod room;
 pub mod sheet;
