@@ -9,7 +9,8 @@
  * No call allocates, or keeps anything for the next. Of the C library the archive has memcpy and memmove alone.
  *
  * A type sheet is a list of words, outermost first: 1 Int; 2 Str; 3 Bytes; 4 P, a reference to predicate P; 5 n and n types, a record; 6 n and n pairs of a
- * discriminant and a type, a union. It has at most 4,096 words. A value sheet is a list of words and a pool of bytes: 0 Null; 1 w Int, a two's complement word;
+ * discriminant and a type, a union; 7 T, an optional T, which is not itself optional: Null fits it, and is 00 at depth 0 and 00 FF in a group
+ * (theorem blanks, crates/format/proofs/Blank.antt). It has at most 4,096 words. A value sheet is a list of words and a pool of bytes: 0 Null; 1 w Int, a two's complement word;
  * 2 len Str and 3 len Bytes, whose bytes stand in the pool in order; 4 raw, a reference (tuple_fact_id makes its raw number from predicate and sequence); 5 n and
  * n values, a record; 6 disc and one value, a union, disc below 2^32.
  * It has at most 1,048,576 words and as many pool bytes. Both nest at most 320 groups (records and unions) and are used up exactly; a Str is UTF-8. */
@@ -37,14 +38,14 @@ enum {
     TUPLE_FACT_REF_PREDICATE = 8,    /* a reference to another predicate than the type's (see tuple_fact_id); detail: the predicate found */
     TUPLE_RESERVED_FACT_ID = 9,      /* a reference with sequence 0 */
     TUPLE_UNKNOWN_DISCRIMINANT = 10, /* the union type has no such alternative; detail: the tag */
-    TUPLE_TYPE_MISMATCH = 11,        /* a value of another kind than its type; detail: the type's kind */
+    TUPLE_TYPE_MISMATCH = 11,        /* a value of another kind than its type; detail: the type's kind, that behind a 7 */
     TUPLE_BAD_UNION = 12,            /* a 6 or 11 within a union; detail: the innermost such union's tag */
     TUPLE_OVERFLOW = 13,             /* an integer above 2^63 - 1 */
     TUPLE_UNDERFLOW = 14,            /* an integer below -2^63 */
     TUPLE_BAD_TYPE = 15,             /* a type sheet that is not admitted */
     TUPLE_BAD_VALUE = 16,            /* a value sheet that is not admitted */
     TUPLE_NO_ROOM = 17,              /* a lent buffer is short; detail: the units needed */
-    TUPLE_NO_FIELD = 18,             /* no such field, a count of fields over the type's, or not a record type */
+    TUPLE_NO_FIELD = 18,             /* no such field, a count of fields over the type's, or not a record type (`7 5 ..` is none) */
     TUPLE_NO_BOUND = 19,             /* strinc: no byte string is above all that begin with the prefix */
     TUPLE_BAD_LINE = 20              /* the program keylist alone: a line that is no key */
 };
@@ -117,7 +118,8 @@ tuple_sheet tuple_check_key(const uint32_t *type, size_t type_len, const uint8_t
 
 /* ---- keys */
 
-/* length: the place behind the field that starts at `start`, found by its marks alone; refusals 1, 2, 3, 5, 6. A null at depth 0 is 00, or 00 FF where that is required. */
+/* length: the place behind the field that starts at `start`, found by its marks alone; refusals 1, 2, 3, 5, 6. A null at depth 0 is 00, or 00 FF where that is
+ * required: a key's blank is passed with the flag off. */
 tuple_length tuple_skip(const uint8_t *bytes, size_t bytes_len, size_t start, bool require_escape_null);
 /* how two values compare: where they are of one type, as their keys do; refusal 16 */
 tuple_order tuple_compare(const uint64_t *words_a, size_t words_a_len, const uint8_t *pool_a, size_t pool_a_len, const uint64_t *words_b, size_t words_b_len, const uint8_t *pool_b, size_t pool_b_len);

@@ -97,6 +97,7 @@ impl Tree for Type {
             Type::Int | Type::Str | Type::Bytes | Type::Fact(_) => (&[], &[]),
             Type::Record(fields) => (fields, &[]),
             Type::Union(alternatives) => (&[], alternatives),
+            Type::Optional(behind) => (slice::from_ref(&**behind), &[]),
         };
         fields.iter().chain(alternatives.iter().map(|alternative| &alternative.ty))
     }
@@ -106,6 +107,7 @@ impl Tree for Type {
             Type::Int | Type::Str | Type::Bytes | Type::Fact(_) => (&mut [], &mut []),
             Type::Record(fields) => (fields, &mut []),
             Type::Union(alternatives) => (&mut [], alternatives),
+            Type::Optional(behind) => (slice::from_mut(&mut **behind), &mut []),
         };
         fields.iter_mut().chain(alternatives.iter_mut().map(|alternative| &mut alternative.ty))
     }
@@ -114,7 +116,7 @@ impl Tree for Type {
         Type::Int
     }
 
-    fn with(&self, parts: impl Iterator<Item = Type>) -> Type {
+    fn with(&self, mut parts: impl Iterator<Item = Type>) -> Type {
         match self {
             Type::Int => Type::Int,
             Type::Str => Type::Str,
@@ -122,6 +124,7 @@ impl Tree for Type {
             Type::Fact(predicate) => Type::Fact(*predicate),
             Type::Record(_) => Type::record(parts),
             Type::Union(alternatives) => Type::union(alternatives.iter().map(|alternative| alternative.disc).zip(parts)),
+            Type::Optional(_) => Type::optional(parts.next().expect("an optional type has one behind it")),
         }
     }
 
@@ -132,6 +135,8 @@ impl Tree for Type {
             Type::Bytes => f.write_str("Bytes"),
             Type::Fact(predicate) => write!(f, "Fact({predicate:?})"),
             Type::Record(fields) => show_list("Record", part, fields.len(), f),
+            Type::Optional(_) if part == 0 => f.write_str("Optional("),
+            Type::Optional(_) => f.write_str(")"),
             Type::Union(alternatives) => {
                 if part > 0 {
                     f.write_str(" }")?;
@@ -168,12 +173,12 @@ impl Type {
     /// What two types have to share besides their parts.
     fn head(&self) -> (u32, usize, impl Iterator<Item = u32>) {
         let (number, alternatives): (usize, &[Alternative]) = match self {
-            Type::Int | Type::Str | Type::Bytes => (0, &[]),
+            Type::Int | Type::Str | Type::Bytes | Type::Optional(_) => (0, &[]),
             Type::Fact(predicate) => (predicate.0 as usize, &[]),
             Type::Record(fields) => (fields.len(), &[]),
             Type::Union(alternatives) => (alternatives.len(), alternatives),
         };
-        (self.kind().number(), number, alternatives.iter().map(|alternative| alternative.disc))
+        (self.word(), number, alternatives.iter().map(|alternative| alternative.disc))
     }
 }
 
@@ -379,6 +384,7 @@ mod tests {
             Fact(PredicateId),
             Record(Vec<Type>),
             Union(Vec<Alternative>),
+            Optional(Box<Type>),
         }
 
         #[derive(Debug, PartialEq, Eq, PartialOrd, Ord)]
@@ -406,6 +412,7 @@ mod tests {
                     .map(|alternative| derived::Alternative { disc: alternative.disc, ty: derived_type(&alternative.ty) })
                     .collect(),
             ),
+            Type::Optional(behind) => derived::Type::Optional(Box::new(derived_type(behind))),
         }
     }
 
@@ -435,6 +442,7 @@ mod tests {
             let inner: Vec<Type> = types.iter().step_by(3).cloned().collect();
             for ty in &inner {
                 types.extend([Type::record([ty.clone()]), Type::union([(1, ty.clone())]), Type::union([(2, ty.clone())])]);
+                types.push(Type::optional(ty.clone()));
                 for other in &inner {
                     types.push(Type::record([ty.clone(), other.clone(), Type::Int]));
                     types.push(Type::union([(1, Type::Str), (9, ty.clone()), (1, other.clone())]));

@@ -150,6 +150,8 @@ pub enum Type {
     Record(Vec<Type>),
     /// one of several alternatives
     Union(Vec<Alternative>),
+    /// a value of this type, or [`Value::Null`] for a blank; the type itself is not optional, or a call refuses it
+    Optional(Box<Type>),
 }
 
 impl Type {
@@ -171,16 +173,53 @@ impl Type {
         Type::Union(alternatives.into_iter().map(|(disc, ty)| Alternative { disc, ty }).collect())
     }
 
-    /// The type's kind.
+    /// This type made optional: its values, or [`Value::Null`] for a blank, which comes before them all (theorem `blanks`). An optional type made optional once more is BadType
+    /// to every call.
+    ///
+    /// ```
+    /// use tuple::{Refusal, Type, Value, decode_key, encode_key};
+    ///
+    /// // a recipe line: the supplier's lot, if it has one, and grams
+    /// let line = Type::record([Type::optional(Type::Str), Type::Int]);
+    /// assert_eq!(line.sheet(), [5, 2, 7, 2, 1]);
+    /// let blank = Value::record([Value::Null, Value::Int(7)]);
+    /// let key = encode_key(&line, &blank).unwrap();
+    /// assert_eq!(key, [0x00, 0x49, 0x07]);
+    /// assert_eq!(decode_key(&line, &key), Ok(blank));
+    /// assert!(key < encode_key(&line, &Value::record([Value::from(""), Value::Int(7)])).unwrap());
+    ///
+    /// // a blank only where the type is optional
+    /// assert_eq!(encode_key(&line, &Value::record([Value::Null, Value::Null])), Err(Refusal::TypeMismatch { declared: tuple::Kind::Int }));
+    /// assert_eq!(encode_key(&Type::optional(Type::optional(Type::Int)), &Value::Null), Err(Refusal::BadType));
+    /// ```
+    #[must_use]
+    pub fn optional(ty: Type) -> Type {
+        Type::Optional(Box::new(ty))
+    }
+
+    /// The word that the type begins with on a sheet: its kind's number, or 7 before one that is optional.
+    pub(crate) fn word(&self) -> u32 {
+        match self {
+            Type::Optional(_) => 7,
+            plain => plain.kind().number(),
+        }
+    }
+
+    /// The type's kind; of an optional type, that of the type which it makes optional.
     #[must_use]
     pub fn kind(&self) -> Kind {
-        match self {
+        let mut ty = self;
+        while let Type::Optional(behind) = ty {
+            ty = behind;
+        }
+        match ty {
             Type::Int => Kind::Int,
             Type::Str => Kind::Str,
             Type::Bytes => Kind::Bytes,
             Type::Fact(_) => Kind::Fact,
             Type::Record(_) => Kind::Record,
             Type::Union(_) => Kind::Union,
+            Type::Optional(_) => unreachable!("passed above"),
         }
     }
 
@@ -194,7 +233,7 @@ impl Type {
         let mut due = vec![(None, self)];
         while let Some((disc, ty)) = due.pop() {
             words.extend(disc);
-            words.push(ty.kind().number());
+            words.push(ty.word());
             match ty {
                 Type::Int | Type::Str | Type::Bytes => {}
                 Type::Fact(predicate) => words.push(predicate.0),
@@ -206,6 +245,7 @@ impl Type {
                     words.push(count(alternatives.len()));
                     due.extend(alternatives.iter().rev().map(|alternative| (Some(alternative.disc), &alternative.ty)));
                 }
+                Type::Optional(behind) => due.push((None, behind)),
             }
         }
         words
@@ -227,7 +267,7 @@ impl Type {
 /// assert!(Value::from("tank") < Value::Int(i64::MIN) && Value::Int(-1) < Value::Int(0));
 /// ```
 pub enum Value {
-    /// nothing; it fits no type
+    /// a blank; it fits optional types alone
     Null,
     /// text
     Str(String),
@@ -474,6 +514,10 @@ mod tests {
             Type::record([]),
         ]);
         assert_eq!(ty.sheet(), [5, 3, 4, 7, 6, 2, 1, 5, 2, 1, 2, 1, 3, 5, 0]);
+        // word 7 stands before a type, a discriminant or a predicate of 7 being another
+        let ty = Type::union([(7, Type::optional(Type::record([Type::Fact(PredicateId(7)), Type::optional(Type::Int)])))]);
+        assert_eq!(ty.sheet(), [6, 1, 7, 7, 5, 2, 4, 7, 7, 1]);
+        assert_eq!((Type::optional(Type::Int).kind(), Type::optional(ty).kind()), (Kind::Int, Kind::Union));
     }
 
     #[test]

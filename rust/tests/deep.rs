@@ -26,16 +26,17 @@ fn on_a_small_stack(test: impl FnOnce() + Send + 'static) {
 }
 
 /// The groups tried, and how a group around the text of another is shown.
-type Groups<T> = [(fn(T) -> T, &'static str, &'static str); 4];
+type Groups<T, const N: usize> = [(fn(T) -> T, &'static str, &'static str); N];
 
-const TYPES: Groups<Type> = [
+const TYPES: Groups<Type, 5> = [
     (|ty| Type::record([ty]), "Record([", "])"),
     (|ty| Type::record([Type::Str, ty, Type::Int]), "Record([Str, ", ", Int])"),
     (|ty| Type::union([(1, ty)]), "Union([Alternative { disc: 1, ty: ", " }])"),
     (|ty| Type::union([(1, ty), (2, Type::Bytes)]), "Union([Alternative { disc: 1, ty: ", " }, Alternative { disc: 2, ty: Bytes }])"),
+    (|ty| Type::optional(Type::record([ty])), "Optional(Record([", "]))"),
 ];
 
-const VALUES: Groups<Value> = [
+const VALUES: Groups<Value, 4> = [
     (|value| Value::record([value]), "Record([", "])"),
     (|value| Value::record([Value::from("a"), value, Value::Int(7)]), "Record([Str(\"a\"), ", ", Int(7)])"),
     (|value| Value::union(1, value), "Union { disc: 1, value: ", " }"),

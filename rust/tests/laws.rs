@@ -94,8 +94,11 @@ fn skip_goes_from_field_to_field() {
         let value = random.value(&ty);
         let key = encode_key(&ty, &value).unwrap();
         let mut place = 0;
-        for k in 0..fields(&value).len() {
-            place = skip(&key, place, true).unwrap();
+        for (k, field) in fields(&value).iter().enumerate() {
+            // a blank's 00 is passed where no escape is required; all else alike
+            let required = skip(&key, place, true);
+            place = skip(&key, place, false).unwrap();
+            assert_eq!(required, if *field == Value::Null { Err(Refusal::UnexpectedTerminator) } else { Ok(place) });
             assert_eq!(key[..place], bounds(&ty, &key, k + 1).unwrap().start);
         }
         assert_eq!(place, key.len());
@@ -145,7 +148,7 @@ fn a_replacement_is_decode_change_encode() {
 fn single_fields_are_those_of_the_encoder() {
     let mut random = Random::new(7);
     for _ in 0..CASES {
-        let ty = random.ty(0);
+        let ty = random.plain_ty(0);
         let value = random.value(&ty);
         let before = random.bytes();
         let mut out = before.clone();

@@ -1,6 +1,6 @@
 //! The register in a real ordered store: tanks, batches, recipe lines and doses as keys in LevelDB. It shows how a search that ends at strinc loses a batch
-//! and one by the bounds call does not, replaces fields in stored keys, checks that the store's order is the order of the values, and counts the rows that a search
-//! for a prefix reads by its upper end.
+//! and one by the bounds call does not, replaces fields in stored keys, finds the recipe lines without a supplier's lot, checks that the store's order is the order
+//! of the values, and counts the rows that a search for a prefix reads by its upper end.
 
 mod leveldb;
 mod tables;
@@ -10,7 +10,7 @@ use std::collections::{BTreeMap, BTreeSet};
 use std::error::Error;
 use std::path::Path;
 use std::process::ExitCode;
-use tables::{Table, Tables, batch, dose, field, fields, hex, line, shown};
+use tables::{Table, Tables, batch, dose, field, fields, hex, line, lot, shown};
 use tuple::{FactId, PredicateId, Type, Value, compare, strinc};
 
 type Answer<T> = Result<T, Box<dyn Error>>;
@@ -36,6 +36,17 @@ const LINES: [(&str, i64, &[u8], i64); 9] = [
     ("cyan blue", 1, b"\x0A\x01", 900),
     ("black", 1, b"\x0B", 65_536),
     ("black", 2, b"\x0B", 0),
+];
+
+/// Recipe lines by their supplier's lot: some have none, and one lot was entered without a number.
+const LOTS: [(Option<&str>, &str, i64); 7] = [
+    (Some("S-17"), "cyan", 1),
+    (None, "cyan", 2),
+    (Some(""), "cyan", 3),
+    (None, "yellow", 1),
+    (Some("S-17"), "yellow", 2),
+    (Some("S-170"), "black", 1),
+    (None, "black", 2),
 ];
 
 /// The checks made, and how many failed.
@@ -278,6 +289,54 @@ fn replacements(store: &Store, tables: &Tables, batches: &BTreeMap<FactId, Value
     Ok(())
 }
 
+/// The recipe lines with each lot, or with none; then one gets a lot, and one loses its own.
+fn by_lot(store: &Store, tables: &Tables, checks: &mut Checks) -> Answer<()> {
+    let all: Vec<Value> = LOTS.iter().map(|(of, recipe, place)| lot(*of, recipe, *place)).collect();
+    for value in &all {
+        store.write(&[Change::Put(tables.lots.stored(value)?, vec![])])?;
+    }
+    let told = |values: &[Value]| {
+        values.iter().map(|value| format!("{} {}", shown(field(value, 1)), shown(field(value, 2)))).collect::<Vec<_>>().join(", ")
+    };
+    let mut rows = Vec::new();
+    for of in [None, Some(""), Some("S-17"), Some("S-170")] {
+        let like = lot(of, "", 0);
+        let range = tables.lots.range(&like, 1)?;
+        let found = found(store, &tables.lots, &range)?;
+        let mut due: Vec<Value> = all.iter().filter(|value| field(value, 0) == field(&like, 0)).cloned().collect();
+        due.sort();
+        let right = checks.yes(found == due).to_owned();
+        rows.push(vec![shown(field(&like, 0)), hex(&range.start[4..]), hex(&range.end[4..]), told(&found), right]);
+    }
+    table(
+        "5. Recipe lines by their supplier's lot, with a dash where there is none",
+        &["lot", "lower end", "upper end", "recipe lines", "as by reading all"],
+        &rows,
+    );
+
+    println!();
+    for (old, new) in [(lot(None, "cyan", 2), Value::from("S-17")), (lot(Some("S-17"), "yellow", 2), Value::Null)] {
+        let key = tables.lots.stored(&old)?;
+        let mut changed = key.clone();
+        tables.lots.replace(&mut changed, 0, &new)?;
+        let mut parts = fields(&old).to_vec();
+        parts[0] = new.clone();
+        store.write(&[Change::Delete(key.clone()), Change::Put(changed.clone(), vec![])])?;
+        let right = checks.yes(changed == tables.lots.stored(&Value::Record(parts))?);
+        println!(
+            "  {}: lot {} for {}: {} becomes {}: {right}",
+            told(&[old.clone()]),
+            shown(&new),
+            shown(field(&old, 0)),
+            hex(&key[4..]),
+            hex(&changed[4..])
+        );
+    }
+    let blank = found(store, &tables.lots, &tables.lots.range(&lot(None, "", 0), 1)?)?;
+    println!("  without a lot then: {}", told(&blank));
+    Ok(())
+}
+
 /// splitmix64, from a fixed seed
 struct Random(u64);
 
@@ -314,6 +373,12 @@ impl Random {
                 let alternative = &alternatives[self.below(alternatives.len())];
                 Value::union(alternative.disc, self.value(&alternative.ty))
             }
+            Type::Optional(behind) => {
+                if self.below(3) == 0 {
+                    return Value::Null;
+                }
+                self.value(behind)
+            }
         }
     }
 }
@@ -346,7 +411,7 @@ fn order(store: &Store, tables: &Tables, random: &mut Random, checks: &mut Check
         ]);
     }
     table(
-        "5. The store's order, with 5,000 values of any sort more in each table, some of them alike",
+        "6. The store's order, with 5,000 values of any sort more in each table, some of them alike",
         &["table", "keys", "above the one before", "not above it", "are the sorted values"],
         &rows,
     );
@@ -377,7 +442,7 @@ fn every_tank(store: &Store, tables: &Tables, checks: &mut Checks) -> Answer<()>
         rows.push(vec![search(by_strinc).to_owned(), own.len().to_string(), all.len().to_string(), wrong.to_string(), strays.to_string()]);
     }
     table(
-        "6. A search for every tank among them",
+        "7. A search for every tank among them",
         &["upper end", "tanks", "batches", "tanks with another's batches", "batches found under a wrong tank"],
         &rows,
     );
@@ -404,7 +469,7 @@ fn planned(store: &Store, tables: &Tables, checks: &mut Checks) -> Answer<()> {
         rows.push(row);
     }
     table(
-        "7. Upper ends above every batch whose key begins so, and the rows read up to each: no end reads fewer than strinc's",
+        "8. Upper ends above every batch whose key begins so, and the rows read up to each: no end reads fewer than strinc's",
         &["beginning", "begin so", "strinc", "reads", "with 00 behind", "the table's end", "none fewer"],
         &rows,
     );
@@ -421,6 +486,7 @@ fn run(folder: &Path) -> Answer<Checks> {
     lost_batch(&store, &tables, &batches, &mut checks)?;
     scans(&store, &tables, &batches, &mut checks)?;
     replacements(&store, &tables, &batches, &mut checks)?;
+    by_lot(&store, &tables, &mut checks)?;
     order(&store, &tables, &mut random, &mut checks)?;
     every_tank(&store, &tables, &mut checks)?;
     planned(&store, &tables, &mut checks)?;

@@ -1,4 +1,4 @@
-//! The register's four tables: the type of each one's keys, and where they stand in the store.
+//! The register's five tables: the type of each one's keys, and where they stand in the store.
 
 use std::ops::Range;
 use tuple::{FactId, PredicateId, Refusal, Type, Value, bounds, decode_key, encode_key, strinc};
@@ -19,6 +19,8 @@ pub struct Tables {
     pub lines: Table,
     /// batch, recipe, what was dosed: 1 grams by the scale, 2 a note by hand
     pub doses: Table,
+    /// the supplier's lot, if there is one, recipe, line
+    pub lots: Table,
 }
 
 impl Tables {
@@ -30,11 +32,12 @@ impl Tables {
             batches: table("batches", 2, &[Type::Bytes, Type::Int]),
             lines: table("recipe lines", 3, &[Type::Str, Type::Int, Type::record([Type::Bytes, Type::Int])]),
             doses: table("doses", 4, &[Type::Fact(PredicateId(2)), Type::Str, Type::union([(1, Type::Int), (2, Type::Str)])]),
+            lots: table("lots", 5, &[Type::optional(Type::Str), Type::Str, Type::Int]),
         }
     }
 
-    pub fn all(&self) -> [&Table; 4] {
-        [&self.tanks, &self.batches, &self.lines, &self.doses]
+    pub fn all(&self) -> [&Table; 5] {
+        [&self.tanks, &self.batches, &self.lines, &self.doses, &self.lots]
     }
 }
 
@@ -93,6 +96,11 @@ pub fn dose(batch: FactId, recipe: &str, what: Value) -> Value {
     Value::record([Value::from(batch), Value::from(recipe), what])
 }
 
+/// A recipe line under its supplier's lot; blank where there is none.
+pub fn lot(lot: Option<&str>, recipe: &str, line: i64) -> Value {
+    Value::record([lot.map_or(Value::Null, Value::from), Value::from(recipe), Value::Int(line)])
+}
+
 /// The fields of a record.
 pub fn fields(value: &Value) -> &[Value] {
     let Value::Record(fields) = value else { panic!("{value:?} is no record") };
@@ -112,7 +120,9 @@ pub fn hex(bytes: &[u8]) -> String {
 /// A value as a person reads it.
 pub fn shown(value: &Value) -> String {
     match value {
-        Value::Null => "nothing".to_owned(),
+        // as operators type it
+        Value::Null => "-".to_owned(),
+        Value::Str(text) if text.is_empty() => "\"\"".to_owned(),
         Value::Int(number) => number.to_string(),
         Value::Str(text) if text.len() > 40 => format!("a text of {} bytes", text.len()),
         Value::Str(text) => text.clone(),

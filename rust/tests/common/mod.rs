@@ -56,7 +56,13 @@ impl Random {
         FactId::new(predicate, sequence).unwrap()
     }
 
+    /// A type, one in four optional, and so are its parts.
     pub fn ty(&mut self, depth: usize) -> Type {
+        let ty = self.plain_ty(depth);
+        if self.below(4) == 0 { Type::optional(ty) } else { ty }
+    }
+
+    pub fn plain_ty(&mut self, depth: usize) -> Type {
         match self.below(if depth == 0 { 4 } else { 7 }) {
             0 => Type::Int,
             1 => Type::Str,
@@ -88,6 +94,12 @@ impl Random {
                 let alternative = &alternatives[self.below(alternatives.len())];
                 Value::union(alternative.disc, self.value(&alternative.ty))
             }
+            Type::Optional(behind) => {
+                if self.below(3) == 0 {
+                    return Value::Null;
+                }
+                self.value(behind)
+            }
         }
     }
 
@@ -97,6 +109,8 @@ impl Random {
             return self.value(ty);
         }
         match (ty, value) {
+            (_, Value::Null) => Value::Null,
+            (Type::Optional(behind), filled) => self.near(behind, filled),
             (Type::Record(types), Value::Record(fields)) => Value::record(types.iter().zip(fields).map(|(ty, field)| self.near(ty, field))),
             (Type::Union(alternatives), Value::Union { disc, value }) => {
                 let ty = &alternatives.iter().find(|alternative| alternative.disc == *disc).unwrap().ty;
