@@ -128,7 +128,8 @@ fn plain_place(ty: &[u32], t: usize) -> usize
     t
 }
 
-// A value of another kind than the type itself; every Null is one. Null fits an optional type, as a blank; all else is refused with the kind of the type itself, never 7.
+// A value of another kind than the type itself; every Null is one. Null fits an optional type, as a blank; all else is refused with the kind of the type itself,
+// never 7.
 fn fit_other(
     ty: &[u32],
     words: &[u64],

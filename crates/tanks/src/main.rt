@@ -1,6 +1,6 @@
-// The ink house's case: tanks whose tags are 0A and 0A 00, alone and inside a record, integers at a change of width, and recipe lines without a supplier's lot. For each pair it prints
-// both keys, the ends that the bounds call gives for the first one's first field, which of the two keys lies between them, and which would
-// with strinc as the upper end.
+// The ink house's case: tanks whose tags are 0A and 0A 00, alone and inside a record, integers at a change of width, and recipe lines without a supplier's lot. For
+// each pair it prints both keys, the ends that the bounds call gives for the first one's first field, which of the two keys lies between them, and which would with
+// strinc as the upper end.
 use blocks::Order;
 use format::Length;
 use key::Bounded;
