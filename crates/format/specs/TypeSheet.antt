@@ -86,7 +86,7 @@ unfoldable mutual
   altNestings Alts.NoAlt = 0
   altNestings (Alts.AddAlt d t us) = max (nesting t) (altNestings us)
 
--- no optional type straight inside another
+-- a type that is not optional
 abbrev pub NotOptional : Ty → Type 0
 NotOptional Ty.Int = Unit {0}
 NotOptional Ty.Str = Unit {0}
@@ -96,6 +96,7 @@ NotOptional (Ty.Record ts) = Unit {0}
 NotOptional (Ty.Union us) = Unit {0}
 NotOptional (Ty.Optional t) = ⊥
 
+-- no optional type straight inside another
 unfoldable mutual
   pub Single : Ty → Type 0
   Single Ty.Int = Unit {0}
