@@ -90,7 +90,10 @@ pub fn walk_fields(
         if refusal != 0 {
             return bad(refusal, 0, b);
         }
-        match walk_value(ty, a, bytes, j, depth, sheet::asks(left, asked)) {
+        // names of their own, so that what was lent is read by halves, as it was handed over
+        let types = ty;
+        let key = bytes;
+        match walk_value(types, a, key, j, depth, sheet::asks(left, asked)) {
             Walked::Bad { no, detail, begun } => {
                 return bad(no, detail, b + begun);
             }

@@ -55,7 +55,8 @@ fn group_end(ty: &[u32], at: usize, groups: usize) -> usize
         if second == format::KIND_FACT {
             return at + 3;
         }
-        return group_end(ty, at + 1, groups);
+        let words = ty;
+        return group_end(words, at + 1, groups);
     }
     if groups == 0 {
         return 0;
