@@ -90,10 +90,9 @@ pub fn walk_fields(
         if refusal != 0 {
             return bad(refusal, 0, b);
         }
-        // names of their own, so that what was lent is read by halves, as it was handed over
-        let types = ty;
+        // a name of its own, so that what was lent is read by halves, as it was handed over
         let key = bytes;
-        match walk_value(types, a, key, j, depth, sheet::asks(left, asked)) {
+        match walk_value(ty, a, key, j, depth, sheet::asks(left, asked)) {
             Walked::Bad { no, detail, begun } => {
                 return bad(no, detail, b + begun);
             }
