@@ -104,22 +104,25 @@ unfolding tyWords nesting Single
 union-reads g n w (got us r) h = (cc (h .0, h .2), omega (arith, h .1), h .3)
 union-reads g n w no h = tt
 
+-- what is asked of the two readers of groups
+abbrev GroupsRead : ℕ → (ℕ → List ℕ → Part Tys) → (ℕ → List ℕ → Part Alts) → Type 0
+GroupsRead g f h = ((n : ℕ) (r : List ℕ) → Reads g (5 ∷ n ∷ r) (map Ty.Record (f n r))) × ((n : ℕ) (r : List ℕ) → Reads g (6 ∷ n ∷ r) (map Ty.Union (h n r)))
+
 -- a scalar, or what a group is
-one-reads : (g : ℕ) (f : ℕ → List ℕ → Part Tys) (h : ℕ → List ℕ → Part Alts) → ((n : ℕ) (r : List ℕ) → Reads g (5 ∷ n ∷ r) (map Ty.Record (f n r)))
-    → ((n : ℕ) (r : List ℕ) → Reads g (6 ∷ n ∷ r) (map Ty.Union (h n r))) → (w : List ℕ) → Reads g w (oneType f h w)
+one-reads : (g : ℕ) (f : ℕ → List ℕ → Part Tys) (h : ℕ → List ℕ → Part Alts) → GroupsRead g f h → (w : List ℕ) → Reads g w (oneType f h w)
 unfolding oneType tyWords nesting Single
-one-reads g f h rf rh [] = tt
-one-reads g f h rf rh (zero ∷ r) = tt
-one-reads g f h rf rh (suc zero ∷ r) = (refl, omega arith, tt)
-one-reads g f h rf rh (suc (suc zero) ∷ r) = (refl, omega arith, tt)
-one-reads g f h rf rh (suc (suc (suc zero)) ∷ r) = (refl, omega arith, tt)
-one-reads g f h rf rh (suc (suc (suc (suc zero))) ∷ []) = tt
-one-reads g f h rf rh (suc (suc (suc (suc zero))) ∷ p ∷ r) = (refl, omega arith, tt)
-one-reads g f h rf rh (suc (suc (suc (suc (suc zero)))) ∷ []) = tt
-one-reads g f h rf rh (suc (suc (suc (suc (suc zero)))) ∷ n ∷ r) = rf n r
-one-reads g f h rf rh (suc (suc (suc (suc (suc (suc zero))))) ∷ []) = tt
-one-reads g f h rf rh (suc (suc (suc (suc (suc (suc zero))))) ∷ n ∷ r) = rh n r
-one-reads g f h rf rh (suc (suc (suc (suc (suc (suc (suc k)))))) ∷ r) = tt
+one-reads g f h k [] = tt
+one-reads g f h k (zero ∷ r) = tt
+one-reads g f h k (suc zero ∷ r) = (refl, omega arith, tt)
+one-reads g f h k (suc (suc zero) ∷ r) = (refl, omega arith, tt)
+one-reads g f h k (suc (suc (suc zero)) ∷ r) = (refl, omega arith, tt)
+one-reads g f h k (suc (suc (suc (suc zero))) ∷ []) = tt
+one-reads g f h k (suc (suc (suc (suc zero))) ∷ p ∷ r) = (refl, omega arith, tt)
+one-reads g f h k (suc (suc (suc (suc (suc zero)))) ∷ []) = tt
+one-reads g f h k (suc (suc (suc (suc (suc zero)))) ∷ n ∷ r) = k .0 n r
+one-reads g f h k (suc (suc (suc (suc (suc (suc zero))))) ∷ []) = tt
+one-reads g f h k (suc (suc (suc (suc (suc (suc zero))))) ∷ n ∷ r) = k .1 n r
+one-reads g f h k (suc (suc (suc (suc (suc (suc (suc l)))))) ∷ r) = tt
 
 -- oneType reads no optional type
 abbrev PlainPart : Part Ty → Type 0
@@ -154,22 +157,23 @@ unfolding tyWords nesting Single
 optional-reads g w (got t r) o h = (ap (λ (l : List ℕ). 7 ∷ l) (h .0), h .1, (o, h .2))
 optional-reads g w no o h = tt
 
-any-reads : (g : ℕ) (f : ℕ → List ℕ → Part Tys) (h : ℕ → List ℕ → Part Alts) → ((n : ℕ) (r : List ℕ) → Reads g (5 ∷ n ∷ r) (map Ty.Record (f n r))) → ((n : ℕ) (r : List ℕ) → Reads g (6 ∷ n ∷ r) (map Ty.Union (h n r))) → (w : List ℕ) → Reads g w (anyType f h w)
+any-reads : (g : ℕ) (f : ℕ → List ℕ → Part Tys) (h : ℕ → List ℕ → Part Alts) → GroupsRead g f h → (w : List ℕ) → Reads g w (anyType f h w)
 unfolding anyType
-any-reads g f h rf rh [] = tt
-any-reads g f h rf rh (k ∷ r) = go (eqb k 7) (eqb-test k 7)
+any-reads g f h k [] = tt
+any-reads g f h k (x ∷ r) = go (eqb x 7) (eqb-test x 7)
   where
-    go : (b : Bool) → Test (k ≡ 7) (k ≢ 7) b → Reads g (k ∷ r) (if b (map Ty.Optional (oneType f h r)) (oneType f h (k ∷ r)))
-    go _ (holds e) = rw e (optional-reads g r (oneType f h r) (one-plain f h r) (one-reads g f h rf rh r))
-    go _ (fails e) = one-reads g f h rf rh (k ∷ r)
+    go : (b : Bool) → Test (x ≡ 7) (x ≢ 7) b → Reads g (x ∷ r) (if b (map Ty.Optional (oneType f h r)) (oneType f h (x ∷ r)))
+    go _ (holds e) = rw e (optional-reads g r (oneType f h r) (one-plain f h r) (one-reads g f h k r))
+    go _ (fails e) = one-reads g f h k (x ∷ r)
 
 pub type-reads : (g : ℕ) (w : List ℕ) → Reads g w (typeAt g w)
 unfolding typeAt
-type-reads zero w = any-reads zero (λ n r. no) (λ n r. no) (λ n r. tt) (λ n r. tt) w
+type-reads zero w = any-reads zero (λ n r. no) (λ n r. no) (λ n r. tt, λ n r. tt) w
 type-reads (suc g) w =
-    any-reads (suc g) (types (typeAt g)) (alts (typeAt g))
-    (λ n r. record-reads g n r (types (typeAt g) n r) (types-read g (typeAt g) (λ v. type-reads g v) n r))
-    (λ n r. union-reads g n r (alts (typeAt g) n r) (alts-read g (typeAt g) (λ v. type-reads g v) n r))
+    any-reads (suc g) (types (typeAt g)) (alts (typeAt g)) (
+      λ n r. record-reads g n r (types (typeAt g) n r) (types-read g (typeAt g) (λ v. type-reads g v) n r),
+      λ n r. union-reads g n r (alts (typeAt g) n r) (alts-read g (typeAt g) (λ v. type-reads g v) n r),
+    )
     w
 
 pub read-words : (g : ℕ) (w : List ℕ) {t : Ty} {r : List ℕ} → typeAt g w ≡ got t r → (w ≡ tyWords t ++ r) × (nesting t ≤ g) × Single t
