@@ -11,7 +11,7 @@ static void dose(const char *name, uint64_t batch) {
     const uint32_t type[] = {5, 2, 4, BATCHES, 1};      /* a record of 2: a reference to predicate 7, Int */
     const uint64_t words[] = {5, 2, 4, batch, 1, 256};
     uint8_t key[32];
-    tuple_length written = tuple_encode_key(type, 5, words, 6, NULL, 0, key, sizeof key);
+    tuple_encoded written = tuple_encode_key(type, 5, words, 6, NULL, 0, key, sizeof key);
     printf("%-22s", name);
     if (written.refusal != TUPLE_OK) {
         printf(" refused: %" PRIu32 ", detail %" PRIu64 "\n", written.refusal, written.detail);

@@ -72,6 +72,8 @@ static inline uint64_t tuple_fact_sequence(uint64_t raw) {
 
 /* bytes written, an end, a place or a used length */
 typedef struct { uint32_t refusal; uint64_t detail; uint64_t length; } tuple_length;
+/* bytes written, and how many zeros were escaped in them */
+typedef struct { uint32_t refusal; uint64_t detail; uint64_t length; uint64_t zeros; } tuple_encoded;
 /* the values begun, the refusing one included (also where refused); the words and pool bytes written */
 typedef struct { uint32_t refusal; uint64_t detail; uint64_t begun; uint64_t words; uint64_t pool; } tuple_sheet;
 /* the lengths of a lower and an upper end */
@@ -90,6 +92,7 @@ typedef struct { uint32_t refusal; uint64_t detail; uint32_t source; uint64_t pa
 typedef struct { uint32_t refusal; uint64_t detail; uint32_t given; uint32_t code; uint64_t at; bool done; } tuple_char;
 
 TUPLE_ASSERT(sizeof(tuple_length) == 24 && offsetof(tuple_length, detail) == 8 && offsetof(tuple_length, length) == 16, "tuple_length");
+TUPLE_ASSERT(sizeof(tuple_encoded) == 32 && offsetof(tuple_encoded, length) == 16 && offsetof(tuple_encoded, zeros) == 24, "tuple_encoded");
 TUPLE_ASSERT(sizeof(tuple_sheet) == 40 && offsetof(tuple_sheet, begun) == 16 && offsetof(tuple_sheet, words) == 24 && offsetof(tuple_sheet, pool) == 32, "tuple_sheet");
 TUPLE_ASSERT(sizeof(tuple_ends) == 32 && offsetof(tuple_ends, lower) == 16 && offsetof(tuple_ends, upper) == 24, "tuple_ends");
 TUPLE_ASSERT(sizeof(tuple_order) == 24 && offsetof(tuple_order, order) == 16, "tuple_order");
@@ -100,13 +103,14 @@ TUPLE_ASSERT(sizeof(tuple_part_step) == 56 && offsetof(tuple_part_step, source) 
 TUPLE_ASSERT(sizeof(tuple_char) == 40 && offsetof(tuple_char, given) == 16 && offsetof(tuple_char, code) == 20 && offsetof(tuple_char, at) == 24 && offsetof(tuple_char, done) == 32, "tuple_char");
 TUPLE_ASSERT(sizeof(size_t) == 8 && sizeof(bool) == 1, "the library is for x86-64");
 
-/* ---- encoding: a value under a type, at the output buffer's beginning. length: the bytes written.
+/* ---- encoding: a value under a type, at the output buffer's beginning. length: the bytes written; zeros: how many zeros were escaped, which is
+ * the number of zero bytes in the pool (theorem zeros-escaped, crates/format/proofs/ZeroLaws.antt).
  * Refusals in order: 15, 16, the value's (6, 8, 9, 10, 11, 12), for a key 7, then 17. */
 
 /* a top record is a group */
-tuple_length tuple_encode_typed(const uint32_t *type, size_t type_len, const uint64_t *words, size_t words_len, const uint8_t *pool, size_t pool_len, uint8_t *out, size_t out_len);
+tuple_encoded tuple_encode_typed(const uint32_t *type, size_t type_len, const uint64_t *words, size_t words_len, const uint8_t *pool, size_t pool_len, uint8_t *out, size_t out_len);
 /* a key: a top record's fields stand bare, and it has at most 65,531 bytes */
-tuple_length tuple_encode_key(const uint32_t *type, size_t type_len, const uint64_t *words, size_t words_len, const uint8_t *pool, size_t pool_len, uint8_t *out, size_t out_len);
+tuple_encoded tuple_encode_key(const uint32_t *type, size_t type_len, const uint64_t *words, size_t words_len, const uint8_t *pool, size_t pool_len, uint8_t *out, size_t out_len);
 
 /* ---- decoding: the value sheet goes to the beginnings of the words' and the pool's buffer.
  * Refusals in order: 15, the key's (1, 2, 4, 5, 6, 8, 9, 10, 13, 14), then 17: words if they are short, else pool bytes. */

@@ -8,6 +8,14 @@ pub struct Length {
 }
 
 #[repr(C)]
+pub struct Encoded {
+    pub refusal: u32,
+    pub detail: u64,
+    pub length: u64,
+    pub zeros: u64,
+}
+
+#[repr(C)]
 pub struct Sheet {
     pub refusal: u32,
     pub detail: u64,
@@ -33,9 +41,9 @@ pub struct Order {
 
 #[rustfmt::skip]
 unsafe extern "C" {
-    fn tuple_encode_key(ty: *const u32, ty_len: usize, words: *const u64, words_len: usize, pool: *const u8, pool_len: usize, out: *mut u8, out_len: usize) -> Length;
+    fn tuple_encode_key(ty: *const u32, ty_len: usize, words: *const u64, words_len: usize, pool: *const u8, pool_len: usize, out: *mut u8, out_len: usize) -> Encoded;
     fn tuple_decode_key(ty: *const u32, ty_len: usize, bytes: *const u8, bytes_len: usize, words: *mut u64, words_len: usize, pool: *mut u8, pool_len: usize) -> Sheet;
-    fn tuple_encode_typed(ty: *const u32, ty_len: usize, words: *const u64, words_len: usize, pool: *const u8, pool_len: usize, out: *mut u8, out_len: usize) -> Length;
+    fn tuple_encode_typed(ty: *const u32, ty_len: usize, words: *const u64, words_len: usize, pool: *const u8, pool_len: usize, out: *mut u8, out_len: usize) -> Encoded;
     fn tuple_decode_typed(ty: *const u32, ty_len: usize, bytes: *const u8, bytes_len: usize, words: *mut u64, words_len: usize, pool: *mut u8, pool_len: usize) -> Sheet;
     fn tuple_check_key(ty: *const u32, ty_len: usize, bytes: *const u8, bytes_len: usize) -> Sheet;
     fn tuple_skip(bytes: *const u8, bytes_len: usize, start: usize, require_escape_null: bool) -> Length;
@@ -45,7 +53,7 @@ unsafe extern "C" {
     fn tuple_replace(ty: *const u32, ty_len: usize, buffer: *mut u8, buffer_len: usize, used: usize, field: usize, words: *const u64, words_len: usize, pool: *const u8, pool_len: usize) -> Length;
 }
 
-pub fn encode_key(ty: &[u32], words: &[u64], pool: &[u8], out: &mut [u8]) -> Length {
+pub fn encode_key(ty: &[u32], words: &[u64], pool: &[u8], out: &mut [u8]) -> Encoded {
     unsafe { tuple_encode_key(ty.as_ptr(), ty.len(), words.as_ptr(), words.len(), pool.as_ptr(), pool.len(), out.as_mut_ptr(), out.len()) }
 }
 
@@ -55,7 +63,7 @@ pub fn decode_key(ty: &[u32], key: &[u8], words: &mut [u64], pool: &mut [u8]) ->
     }
 }
 
-pub fn encode_typed(ty: &[u32], words: &[u64], pool: &[u8], out: &mut [u8]) -> Length {
+pub fn encode_typed(ty: &[u32], words: &[u64], pool: &[u8], out: &mut [u8]) -> Encoded {
     unsafe { tuple_encode_typed(ty.as_ptr(), ty.len(), words.as_ptr(), words.len(), pool.as_ptr(), pool.len(), out.as_mut_ptr(), out.len()) }
 }
 

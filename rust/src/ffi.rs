@@ -15,6 +15,22 @@ pub(crate) struct Length {
     pub(crate) length: u64,
 }
 
+/// bytes written, and how many zeros were escaped in them
+#[repr(C)]
+pub(crate) struct Encoded {
+    refusal: u32,
+    detail: u64,
+    length: u64,
+    pub(crate) zeros: u64,
+}
+
+impl Encoded {
+    /// The same without the zeros.
+    pub(crate) fn written(self) -> Length {
+        Length { refusal: self.refusal, detail: self.detail, length: self.length }
+    }
+}
+
 /// the values begun, also where refused; the words and pool bytes written
 #[repr(C)]
 pub(crate) struct Sheet {
@@ -105,6 +121,8 @@ const _: () = {
     assert!(size_of::<Char>() == 40 && offset_of!(Char, detail) == 8 && offset_of!(Char, given) == 16);
     assert!(offset_of!(Char, code) == 20 && offset_of!(Char, at) == 24 && offset_of!(Char, done) == 32);
     assert!(size_of::<Length>() == 24 && offset_of!(Length, detail) == 8 && offset_of!(Length, length) == 16);
+    assert!(size_of::<Encoded>() == 32 && offset_of!(Encoded, detail) == 8);
+    assert!(offset_of!(Encoded, length) == 16 && offset_of!(Encoded, zeros) == 24);
     assert!(size_of::<Sheet>() == 40 && offset_of!(Sheet, detail) == 8 && offset_of!(Sheet, begun) == 16);
     assert!(offset_of!(Sheet, words) == 24 && offset_of!(Sheet, pool) == 32);
     assert!(size_of::<Ends>() == 32 && offset_of!(Ends, detail) == 8 && offset_of!(Ends, lower) == 16 && offset_of!(Ends, upper) == 24);
@@ -140,12 +158,12 @@ macro_rules! answers {
     )*};
 }
 
-answers!(Length, Sheet, Ends, Order, Number, Part, Step, PartStep, Char);
+answers!(Length, Encoded, Sheet, Ends, Order, Number, Part, Step, PartStep, Char);
 
 #[rustfmt::skip]
 unsafe extern "C" {
-    fn tuple_encode_typed(ty: *const u32, ty_len: usize, words: *const u64, words_len: usize, pool: *const u8, pool_len: usize, out: *mut u8, out_len: usize) -> Length;
-    fn tuple_encode_key(ty: *const u32, ty_len: usize, words: *const u64, words_len: usize, pool: *const u8, pool_len: usize, out: *mut u8, out_len: usize) -> Length;
+    fn tuple_encode_typed(ty: *const u32, ty_len: usize, words: *const u64, words_len: usize, pool: *const u8, pool_len: usize, out: *mut u8, out_len: usize) -> Encoded;
+    fn tuple_encode_key(ty: *const u32, ty_len: usize, words: *const u64, words_len: usize, pool: *const u8, pool_len: usize, out: *mut u8, out_len: usize) -> Encoded;
     fn tuple_decode_typed(ty: *const u32, ty_len: usize, bytes: *const u8, bytes_len: usize, words: *mut u64, words_len: usize, pool: *mut u8, pool_len: usize) -> Sheet;
     fn tuple_decode_key(ty: *const u32, ty_len: usize, bytes: *const u8, bytes_len: usize, words: *mut u64, words_len: usize, pool: *mut u8, pool_len: usize) -> Sheet;
     fn tuple_check_key(ty: *const u32, ty_len: usize, bytes: *const u8, bytes_len: usize) -> Sheet;
@@ -186,7 +204,7 @@ unsafe extern "C" {
 // written overlaps no other of its call, and that an empty one may have any pointer; a call is total, reads and writes within the slices lent to it alone,
 // and keeps nothing. A Rust slice gives the first, `&mut` the second.
 
-pub(crate) fn encode_typed(ty: &[u32], value: &ValueSheet, out: &mut [u8]) -> Length {
+pub(crate) fn encode_typed(ty: &[u32], value: &ValueSheet, out: &mut [u8]) -> Encoded {
     let (words, pool) = (value.words(), value.pool());
     // SAFETY: each pointer and length are of one slice that lives through the call; `out`, which is written, is borrowed alone.
     unsafe {
@@ -194,7 +212,7 @@ pub(crate) fn encode_typed(ty: &[u32], value: &ValueSheet, out: &mut [u8]) -> Le
     }
 }
 
-pub(crate) fn encode_key(ty: &[u32], value: &ValueSheet, out: &mut [u8]) -> Length {
+pub(crate) fn encode_key(ty: &[u32], value: &ValueSheet, out: &mut [u8]) -> Encoded {
     let (words, pool) = (value.words(), value.pool());
     // SAFETY: each pointer and length are of one slice that lives through the call; `out`, which is written, is borrowed alone.
     unsafe { tuple_encode_key(ty.as_ptr(), ty.len(), words.as_ptr(), words.len(), pool.as_ptr(), pool.len(), out.as_mut_ptr(), out.len()) }
@@ -438,6 +456,29 @@ mod tests {
     #[test]
     fn int_0_into_no_room_is_17_with_1() {
         assert_eq!(encode_key(&[1], &ValueSheet::of(&[1, 0], &[]), &mut []).said(), (17, 1));
+    }
+
+    #[test]
+    fn a_refused_call_shows_no_zeros() {
+        let short = ValueSheet::of(&[3, 1], &[0]);
+        let blank = ValueSheet::of(&[5, 2, 3, 1, 0], &[0]);
+        for encode in [encode_typed, encode_key] {
+            for (ty, value, room, refusal) in [
+                (&[3][..], &short, 3, (17, 4)),
+                (&[5, 2, 3, 1], &blank, 9, (11, 1)),
+                (&[], &short, 9, (15, 0)),
+                (&[3], &ValueSheet::of(&[3, 2], &[0]), 9, (16, 0)),
+            ] {
+                let answer = encode(ty, value, &mut vec![0; room]);
+                assert_eq!((answer.said(), answer.length, answer.zeros), (refusal, 0, 0));
+            }
+        }
+        let long = ValueSheet::of(&[3, 40_000], &[0; 40_000]);
+        let mut out = vec![0; 80_002];
+        let answer = encode_typed(&[3], &long, &mut out);
+        assert_eq!((answer.said(), answer.length, answer.zeros), ((0, 0), 80_002, 40_000));
+        let answer = encode_key(&[3], &long, &mut out);
+        assert_eq!((answer.said(), answer.length, answer.zeros), ((7, 80_002), 0, 0));
     }
 
     #[test]

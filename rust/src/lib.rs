@@ -82,8 +82,7 @@ fn first_room(value: &ValueSheet) -> usize {
 /// assert_eq!(encode_typed(&ty, &Value::record([Value::Int(0)])).unwrap(), [0x22, 0x48, 0x00]);
 /// ```
 pub fn encode_typed(ty: &Type, value: &Value) -> Result<Vec<u8>, Refusal> {
-    let (ty, value) = (ty.sheet(), value.sheet());
-    room::filled(first_room(&value), |out| ffi::encode_typed(&ty, &value, out))
+    encode_typed_counted(ty, value).map(|(bytes, _)| bytes)
 }
 
 /// Encodes a key: the fields of a record stand bare, and other types go as in [`encode_typed`]. A key has at most [`MAX_KEY_BYTES`].
@@ -100,8 +99,29 @@ pub fn encode_typed(ty: &Type, value: &Value) -> Result<Vec<u8>, Refusal> {
 /// assert_eq!(encode_key(&Type::Bytes, &Value::Bytes(vec![1; 65_530])), Err(Refusal::KeyTooLong { len: 65_532 }));
 /// ```
 pub fn encode_key(ty: &Type, value: &Value) -> Result<Vec<u8>, Refusal> {
+    encode_key_counted(ty, value).map(|(key, _)| key)
+}
+
+/// [`encode_typed`] with the number of zeros escaped, as in [`encode_key_counted`].
+pub fn encode_typed_counted(ty: &Type, value: &Value) -> Result<(Vec<u8>, u64), Refusal> {
     let (ty, value) = (ty.sheet(), value.sheet());
-    room::filled(first_room(&value).min(MAX_KEY_BYTES), |out| ffi::encode_key(&ty, &value, out))
+    room::counted(first_room(&value), |out| ffi::encode_typed(&ty, &value, out))
+}
+
+/// [`encode_key`] with the number of zeros escaped: the zero bytes of all `Str` and `Bytes` in the value (theorem `zeros-escaped` of crate `format`). Each
+/// makes the key a byte longer. No other zero counts: of a number, a reference, a blank or an end.
+///
+/// ```
+/// use tuple::{Type, Value, encode_key_counted};
+///
+/// let tank = Type::record([Type::Bytes, Type::Int]);
+/// let counted = |tag: &[u8]| encode_key_counted(&tank, &Value::record([Value::from(tag), Value::Int(256)])).unwrap();
+/// assert_eq!(counted(b"\x0A\x00\x00"), (vec![0x53, 0x0A, 0x00, 0xFF, 0x00, 0xFF, 0x00, 0x4A, 0x01, 0x00], 2));
+/// assert_eq!(counted(b"\x0A\x01\x02"), (vec![0x53, 0x0A, 0x01, 0x02, 0x00, 0x4A, 0x01, 0x00], 0)); // the tag to buy
+/// ```
+pub fn encode_key_counted(ty: &Type, value: &Value) -> Result<(Vec<u8>, u64), Refusal> {
+    let (ty, value) = (ty.sheet(), value.sheet());
+    room::counted(first_room(&value).min(MAX_KEY_BYTES), |out| ffi::encode_key(&ty, &value, out))
 }
 
 /// The value that these bytes of [`encode_typed`] encode.

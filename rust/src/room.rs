@@ -1,6 +1,6 @@
 //! Buffers that grow: where a call answers NoRoom, it is given the units needed and called again.
 
-use crate::ffi::{Answer, Length, Sheet};
+use crate::ffi::{Answer, Encoded, Length, Sheet};
 use crate::refusal::Refusal;
 use crate::sheet::Value;
 
@@ -29,6 +29,17 @@ pub(crate) fn filled(first: usize, call: impl FnMut(&mut [u8]) -> Length) -> Res
     let mut out = Vec::new();
     grown(&mut out, first, call)?;
     Ok(out)
+}
+
+/// The same of an encoding call, with the number of zeros escaped.
+pub(crate) fn counted(first: usize, mut call: impl FnMut(&mut [u8]) -> Encoded) -> Result<(Vec<u8>, u64), Refusal> {
+    let mut zeros = 0;
+    let out = filled(first, |out| {
+        let answer = call(out);
+        zeros = answer.zeros;
+        answer.written()
+    })?;
+    Ok((out, zeros))
 }
 
 /// What a decoding call answers with rooms for words and pool, and the values begun.
@@ -66,11 +77,11 @@ mod tests {
         let key = crate::encode_key(&ty, &value).unwrap();
         for first in 0..=key.len() + 1 {
             let mut calls = 0;
-            let found = filled(first, |out| {
+            let found = counted(first, |out| {
                 calls += 1;
                 ffi::encode_key(&ty.sheet(), &value.sheet(), out)
             });
-            assert_eq!(found.as_deref(), Ok(&key[..]));
+            assert_eq!(found, Ok((key.clone(), 2)));
             assert_eq!(calls, if first < key.len() { 2 } else { 1 });
         }
         for words in [0, 1, 7, 8, 20] {

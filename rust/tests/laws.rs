@@ -2,12 +2,12 @@
 
 mod common;
 
-use common::{Random, count};
+use common::{Random, count, zeros};
 use std::borrow::Cow;
 use tuple::{
     Refusal, Type, Value, above_field, bounds, check_key, check_key_counted, compare, decode_key, decode_key_counted, decode_typed,
-    decode_typed_counted, encode_key, encode_typed, get_bytes, get_i64, get_str, get_u64, put_bytes, put_fact_id, put_i64, put_str,
-    put_u64, replace, skip, strinc,
+    decode_typed_counted, encode_key, encode_key_counted, encode_typed, encode_typed_counted, get_bytes, get_i64, get_str, get_u64,
+    put_bytes, put_fact_id, put_i64, put_str, put_u64, replace, skip, strinc,
 };
 
 const CASES: usize = 20_000;
@@ -32,6 +32,21 @@ fn a_value_comes_back_from_its_bytes() {
         assert_eq!(decode_key_counted(&ty, &key), (Ok(value), begun));
         assert_eq!(check_key_counted(&ty, &key), (Ok(()), begun));
     }
+}
+
+#[test]
+fn the_zeros_escaped_are_those_of_texts_and_bytes() {
+    let mut random = Random::new(10);
+    let (mut some, mut none) = (0, 0);
+    for _ in 0..CASES {
+        let ty = random.ty(3);
+        let value = random.value(&ty);
+        let due = zeros(&value);
+        let ((_, typed), (_, key)) = (encode_typed_counted(&ty, &value).unwrap(), encode_key_counted(&ty, &value).unwrap());
+        assert_eq!((typed, key), (due, due), "{value:?}");
+        *(if due > 0 { &mut some } else { &mut none }) += 1;
+    }
+    assert!(some > CASES / 4 && none > CASES / 4, "{some} {none}");
 }
 
 #[test]

@@ -18,6 +18,10 @@ static void length(const char *what, tuple_length a, uint64_t refusal, uint64_t 
     same(what, (uint64_t[]){a.refusal, a.detail, a.length}, (uint64_t[]){refusal, detail, length}, 3);
 }
 
+static void encoded(const char *what, tuple_encoded a, uint64_t refusal, uint64_t detail, uint64_t length, uint64_t zeros) {
+    same(what, (uint64_t[]){a.refusal, a.detail, a.length, a.zeros}, (uint64_t[]){refusal, detail, length, zeros}, 4);
+}
+
 static void sheet(const char *what, tuple_sheet a, uint64_t refusal, uint64_t detail, uint64_t begun, uint64_t words, uint64_t pool) {
     same(what, (uint64_t[]){a.refusal, a.detail, a.begun, a.words, a.pool}, (uint64_t[]){refusal, detail, begun, words, pool}, 5);
 }
@@ -61,14 +65,17 @@ int main(void) {
     uint8_t out[16] = {0}, more[16] = {0};
     uint64_t sheet_words[8];
 
-    length("encode_key", tuple_encode_key(tank, 4, words, 6, tag, 2, out, 16), 0, 0, 7);
+    encoded("encode_key", tuple_encode_key(tank, 4, words, 6, tag, 2, out, 16), 0, 0, 7, 1);
     if (memcmp(out, key, 7) != 0) {
         puts("encode_key: the key's bytes differ");
         wrong++;
     }
-    length("encode_key, short", tuple_encode_key(tank, 4, words, 6, tag, 2, out, 6), TUPLE_NO_ROOM, 7, 0);
-    length("encode_typed", tuple_encode_typed(tank, 4, words, 6, tag, 2, out, 16), 0, 0, 9);
-    length("encode_typed, null", tuple_encode_typed(tank, 4, null, 1, NULL, 0, out, 16), TUPLE_TYPE_MISMATCH, 5, 0);
+    encoded("encode_key, no zeros", tuple_encode_key(tank, 4, words, 6, (const uint8_t[]){0x0A, 0x01}, 2, out, 16), 0, 0, 6, 0);
+    encoded("encode_key, short", tuple_encode_key(tank, 4, words, 6, tag, 2, out, 6), TUPLE_NO_ROOM, 7, 0, 0);
+    encoded("encode_typed", tuple_encode_typed(tank, 4, words, 6, tag, 2, out, 16), 0, 0, 9, 1);
+    encoded("encode_typed, no zeros", tuple_encode_typed(tank, 4, words, 6, (const uint8_t[]){0x0A, 0x01}, 2, out, 16), 0, 0, 8, 0);
+    encoded("encode_typed, short", tuple_encode_typed(tank, 4, words, 6, tag, 2, out, 8), TUPLE_NO_ROOM, 9, 0, 0);
+    encoded("encode_typed, null", tuple_encode_typed(tank, 4, null, 1, NULL, 0, out, 16), TUPLE_TYPE_MISMATCH, 5, 0, 0);
     sheet("decode_key", tuple_decode_key(tank, 4, key, 7, sheet_words, 8, out, 16), 0, 0, 2, 6, 2);
     if (memcmp(sheet_words, words, sizeof words) != 0 || memcmp(out, tag, 2) != 0) {
         puts("decode_key: the sheet differs");

@@ -2,7 +2,7 @@
 # That include/tuple.h declares what the library exports: writes the answers and the calls of crates/tuple in C's words, and compiles that beside the header.
 # A field, a size, a parameter, an answer or a split of references that differs does not compile; a call or a refusal's number that only one of the two has is shown, and so is
 # a file of the code that names the split beside the constant and its one user, a second line that compares a discriminant with a tag, or a theorem that the
-# header, a comment of the code, the Rust crate or README names and that no crate has.
+# header, a comment of the code, the Rust crate or README names and that no crate has; and a call beside the two of encoding that shows the zeros escaped.
 set -eu
 cd "$(dirname "$0")/../.."
 made=$(mktemp -d)
@@ -11,8 +11,8 @@ cat crates/tuple/src/answers.rt crates/tuple/src/steps.rt | awk '
     BEGIN {
         split("u32 uint32_t u64 uint64_t i32 int32_t bool bool", words, " ")
         for (i = 1; i < 8; i += 2) c[words[i]] = words[i + 1]
-        split("Length length Sheet sheet Ends ends Order order Number number Part part CursorStep step PartStep part_step CharStep char", words, " ")
-        for (i = 1; i < 18; i += 2) named[words[i]] = "tuple_" words[i + 1]
+        split("Length length Encoded encoded Sheet sheet Ends ends Order order Number number Part part CursorStep step PartStep part_step CharStep char", words, " ")
+        for (i = 1; i < 20; i += 2) named[words[i]] = "tuple_" words[i + 1]
     }
     /^#\[repr\(C\)\]$/ { getline; name = $3; fields = ""; checks = ""; answers++; next }
     name != "" && /^}$/ {
@@ -27,11 +27,11 @@ cat crates/tuple/src/answers.rt crates/tuple/src/steps.rt | awk '
         checks = checks "_Static_assert(offsetof(struct in_library_" name ", " field ") == offsetof(" named[name] ", " field "), \"" where ": place\");\n"
         checks = checks "_Static_assert(__builtin_types_compatible_p(__typeof__(((" named[name] " *)0)->" field "), " c[type] "), \"" where ": type\");\n"
     }
-    END { if (answers != 9) { print "the library has " answers " answers" > "/dev/stderr"; exit 1 } }' >"$made/answers.c"
+    END { if (answers != 10) { print "the library has " answers " answers" > "/dev/stderr"; exit 1 } }' >"$made/answers.c"
 cat crates/tuple/src/*.rt | tr '\n' ' ' | sed 's/#\[no_mangle\]/\n/g' | awk '
     BEGIN {
-        split("Length length Sheet sheet Ends ends Order order Number number Part part CursorStep step PartStep part_step CharStep char", words, " ")
-        for (i = 1; i < 18; i += 2) named[words[i]] = "tuple_" words[i + 1]
+        split("Length length Encoded encoded Sheet sheet Ends ends Order order Number number Part part CursorStep step PartStep part_step CharStep char", words, " ")
+        for (i = 1; i < 20; i += 2) named[words[i]] = "tuple_" words[i + 1]
         split("u8 uint8_t u32 uint32_t u64 uint64_t usize size_t bool bool", words, " ")
         for (i = 1; i < 10; i += 2) c[words[i]] = words[i + 1]
     }
@@ -54,6 +54,8 @@ cat crates/tuple/src/*.rt | tr '\n' ' ' | sed 's/#\[no_mangle\]/\n/g' | awk '
 sed -n 's/^tuple_[a-z_]* \(tuple_[a-z0-9_]*\)(.*/\1/p' include/tuple.h | sort >"$made/in_header"
 sed -n 's/^tuple_[a-z_]* \(tuple_[a-z0-9_]*\)(.*/\1/p' "$made/calls.c" | sort >"$made/in_library"
 diff "$made/in_header" "$made/in_library"
+sed -n 's/^tuple_encoded \(tuple_[a-z0-9_]*\)(.*/\1/p' "$made/calls.c" | sort >"$made/with_zeros"
+printf 'tuple_encode_%s\n' key typed | diff - "$made/with_zeros"
 sed -n 's/^    TUPLE_\([A-Z_]*\) = \([0-9]*\).*/\1 \2/p' include/tuple.h >"$made/numbers_in_header"
 { echo OK 0; sed -n '/^\/\/ The refusals/,$s/^pub const \([A-Z_]*\): u32 = \([0-9]*\);/\1 \2/p' crates/format/src/lib.rt; } >"$made/numbers_in_library"
 diff "$made/numbers_in_header" "$made/numbers_in_library"
@@ -77,6 +79,9 @@ scrolls crates/chars/src/lib.rt
 scrolls rust/src/cursor.rs
 blanks include/tuple.h
 blanks rust/src/sheet.rs
+zeros-escaped include/tuple.h
+zeros-escaped crates/tuple/src/sheets.rt
+zeros-escaped rust/src/lib.rs
 END
 sequences=$(sed -n 's/^pub const SEQUENCES: u64 = \([0-9a-fx_]*\);$/\1/p' crates/format/src/lib.rt | tr -d _)
 {
@@ -85,4 +90,4 @@ sequences=$(sed -n 's/^pub const SEQUENCES: u64 = \([0-9a-fx_]*\);$/\1/p' crates
     echo "_Static_assert((UINT64_C(1) << TUPLE_SEQUENCE_BITS) == $sequences, \"the split of a reference\");"
 } >"$made/declared.c"
 ${CC:-cc} -std=gnu11 -Wall -Wextra -Werror -I . -fsyntax-only "$made/declared.c"
-echo "$(wc -l <"$made/in_library") calls, 9 answers and $(($(wc -l <"$made/numbers_in_library") - 1)) refusals: the header declares what the library has"
+echo "$(wc -l <"$made/in_library") calls, 10 answers and $(($(wc -l <"$made/numbers_in_library") - 1)) refusals: the header declares what the library has"

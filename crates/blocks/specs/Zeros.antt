@@ -1,10 +1,8 @@
--- Zeros among bytes: none between two places, the next one from a place on, and how many.
+-- Zeros among bytes: none between two places, and the next one from a place on. How many there are is format's `zeros`.
 use mathlib.Core.Path.{_≡_}
-use mathlib.Core.List.{List, [], _∷_}
-use Prim.Native.Nat.{ℕ, suc, _≤_, _<_}
-use lib.Dec.{eqb}
+use mathlib.Core.List.{List}
+use Prim.Native.Nat.{ℕ, _≤_, _<_}
 use lib.ListN.{length, getD}
-use Rattle.format.specs.Answer.{if}
 
 -- none from i on, before e
 abbrev pub NoZero : List ℕ → ℕ → ℕ → Type 0
@@ -23,8 +21,3 @@ pub record ZeroFrom (s : List ℕ) (i r : ℕ) : Type 0 where
   pub inside : r ≤ length s
   pub none : NoZero s i r
   pub zero : r < length s → getD s r 0 ≡ 0
-
--- how many
-unfoldable pub zeros : List ℕ → ℕ
-zeros [] = 0
-zeros (b ∷ s) = if (eqb b 0) (suc (zeros s)) (zeros s)

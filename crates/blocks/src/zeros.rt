@@ -4,7 +4,8 @@ ghost use mathlib.Core.Bool.{true};
 ghost use Prim.Native.Nat.{_+_, _≤_, _<_};
 ghost use lib.ListN.{length};
 ghost use lib.Seq.{slice};
-ghost use Rattle.blocks.specs.Zeros.{NoZero, ZeroAmong, ZeroFrom, zeros};
+ghost use Rattle.format.specs.Zeros.{zeros};
+ghost use Rattle.blocks.specs.Zeros.{NoZero, ZeroAmong, ZeroFrom};
 
 // Are there k bytes from i on, and none of them zero? A flag and not an exit: the loop is one vector test.
 pub fn clear(s: &[u8], i: usize, k: usize) -> bool

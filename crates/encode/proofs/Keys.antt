@@ -2,7 +2,7 @@
 use mathlib.Core.Path.{_≡_, refl, sym, ap, _∙_, subst}
 use mathlib.Core.Bool.{Bool, true, false, not}
 use mathlib.Core.List.{List}
-use Prim.Native.Nat.{ℕ, _≤_, _<_}
+use Prim.Native.Nat.{ℕ, _+_, _≤_, _<_}
 use native.Mathlib.Omega.{arith}
 use borrow.Author.Tests.{eq-eqb, ne-eqb, eqb-true, eqb-false, not-true, not-false}
 use lib.Dec.{eqb}
@@ -16,6 +16,7 @@ use Rattle.format.specs.ValueSheet as values
 use Rattle.format.specs.ValueSheet.{valueOf}
 use Rattle.format.specs.Encode.{valBytes, valsBytes, fits, fitsAll, ofKind, encode, encodeTyped, keyBytes, fine}
 use Rattle.format.specs.Fields.{put}
+use Rattle.format.specs.Zeros.{valZeros, shownZeros}
 use Rattle.format.proofs.TypeLaws as type-laws
 use Rattle.format.proofs.ValueLaws as value-laws
 use Rattle.format.proofs.TypePlaces as type-places
@@ -30,7 +31,7 @@ use Rattle.fit.specs.Fit as fit
 use Rattle.fit.proofs.Steps as fit-laws
 use Rattle.write.specs.declared.Put.{Put}
 use Rattle.write.specs.Write as write
-use Rattle.encode.specs.Encoded.{sizeIn, sized, keyOf, Sheets, PutKey}
+use Rattle.encode.specs.Encoded.{sizeIn, sized, keyOf, Sheets, Wrote, PutKey}
 
 -- ---- the type and the value of admitted sheets
 
@@ -83,11 +84,17 @@ module _ {ty words pool : List ℕ} (s : Sheets ty words pool) where
   unfolding encode
   whole-measured {asked} {r} i = measured r (valBytes 0 (s .v)) refl (i .says (s .t) (s .v) _ _ _ pair)
 
-  pub whole-written : {l l′ : List ℕ} {p : Put} → write.WroteValue words pool (write.standing 0 0 0) 0 l p l′ → (bs : List ℕ) → encodeTyped (s .t) (s .v) ≡ ok bs → length bs ≤ length l → l′ ≡ put l 0 bs
+  -- what was written of the sheet's value
+  wrote : {l l′ bs : List ℕ} {z : ℕ} → l′ ≡ put l 0 bs → z ≡ valZeros (s .v) + 0 → Wrote words pool l bs z l′
+  wrote {bs = bs} {z} b e = record { bytes = b; zeros = rw (s .is-value) (omega arith) }
+
+  pub whole-written : {l l′ : List ℕ} {p : Put} → write.WroteValue words pool (write.standing 0 0 0 0) 0 l p l′ → (bs : List ℕ) → encodeTyped (s .t) (s .v) ≡ ok bs → length bs ≤ length l
+      → Wrote words pool l bs (p .zeros) l′
   unfolding encode
   whole-written i bs e room =
       let q = accepted (fits (s .t) 0 (s .v)) (valBytes 0 (s .v)) bs e in
-      rw (q .1) at (i .says .one (s .t) (s .v) _ _ (q .0) (value .proper) (pair .value) (rw (q .1) (omega arith)) .wrote)
+      let d = i .says .one (s .t) (s .v) _ _ (q .0) (value .proper) (pair .value) (rw (q .1) (omega arith)) in
+      wrote (rw (q .1) at (d .wrote)) (d .counted)
 
   -- ---- a key that is no record's
 
@@ -101,7 +108,7 @@ module _ {ty words pool : List ℕ} (s : Sheets ty words pool) where
     pub key-whole : {asked : Bool} {f : Fitted} → fit.FitValue ty words pool 0 0 0 0 asked f → sizeIn f ≡ sized (keyOf ty words pool)
     key-whole i = whole-measured i ∙ ap sized (sym whole-key)
 
-    pub put-whole : {l l′ : List ℕ} {p : Put} → write.WroteValue words pool (write.standing 0 0 0) 0 l p l′ → PutKey ty words pool l l′
+    pub put-whole : {l l′ : List ℕ} {p : Put} → write.WroteValue words pool (write.standing 0 0 0 0) 0 l p l′ → PutKey ty words pool l (p .zeros) l′
     put-whole i = record { wrote = λ bs e room. whole-written i bs (sym whole-key ∙ e) room }
 
   -- ---- a record's key
@@ -171,13 +178,14 @@ module _ {ty words pool : List ℕ} (s : Sheets ty words pool) where
     pub accepted-second : (bs : List ℕ) → keyOf ty words pool ≡ ok bs → 1 < length words
     accepted-second bs e = value-second (value-kind bs e)
 
-    pub put-bare : {l l′ : List ℕ} {p : Put} → write.WroteFields words pool (write.standing 2 0 0) (getD words 1 0) 0 l p l′ → PutKey ty words pool l l′
-    unfolding values.Proper
+    pub put-bare : {l l′ : List ℕ} {p : Put} → write.WroteFields words pool (write.standing 2 0 0 0) (getD words 1 0) 0 l p l′ → PutKey ty words pool l (p .zeros) l′
+    unfolding values.Proper valZeros
     put-bare i =
         record {
           wrote = λ bs e room.
               let b = val (value-kind bs e) in
               let q = parts (Val.Record (b .vs)) bs (sym (key-fields (value-kind bs e)) ∙ e) in
               let proper = subst values.Proper (b .is) (value .proper) in
-              rw (q .2) at (i .says .row (top .ts) (b .vs) _ _ (q .1) proper (b .count) (b .fields) (rw (q .2) (omega arith)) .wrote);
+              let d = i .says .row (top .ts) (b .vs) _ _ (q .1) proper (b .count) (b .fields) (rw (q .2) (omega arith)) in
+              wrote (rw (q .2) at (d .wrote)) (rw (b .is) (d .counted));
         }

@@ -1,25 +1,30 @@
 // The encoding calls: a value under a type, as a whole or as a key.
 use fit::Fitted;
-use format::Length;
 ghost use mathlib.Core.Path.{_≡_};
 ghost use lib.Dec.{eqb};
 ghost use lib.ListN.{getD};
-ghost use Rattle.format.specs.Lengths.{Leaves};
 ghost use Rattle.format.specs.Calls.{encodeTypedCall, encodeKeyCall};
-ghost use Rattle.encode.specs.Encoded.{sizeIn, sized, keyOf, Sheets, Accepted, PutKey};
+ghost use Rattle.format.specs.Zeros.{encodeTypedZeros, encodeKeyZeros};
+ghost use Rattle.encode.specs.Encoded.{sizeIn, sized, keyOf, Sheets, Accepted, PutKey, Encodes};
+
+// How many bytes were written, and how many zeros were escaped in them; or a refusal and its detail.
+pub enum Encoded {
+    Done { length: usize, zeros: usize },
+    Refused(u32, u64),
+}
 
 // Encodes a value under its type at the buffer's beginning.
-pub fn encode_typed(ty: &[u32], words: &[u64], pool: &[u8], out: &mut [u8]) -> Length
-    ensures { λ r. ⌜ Leaves (encodeTypedCall (now (ty .entry)) (now (words .entry)) (now (pool .entry)) (now (out .entry))) r (now (out .exit)) ⌝ }
+pub fn encode_typed(ty: &[u32], words: &[u64], pool: &[u8], out: &mut [u8]) -> Encoded
+    ensures { λ r. ⌜ Encodes encodeTypedCall encodeTypedZeros (now (ty .entry)) (now (words .entry)) (now (pool .entry)) (now (out .entry)) r (now (out .exit)) ⌝ }
 {
     if !sheet::admit_type(ty) {
-        return Length::Refused(format::BAD_TYPE, 0);
+        return Encoded::Refused(format::BAD_TYPE, 0);
     }
     if !sheet::admit_value(words, pool) {
-        return Length::Refused(format::BAD_VALUE, 0);
+        return Encoded::Refused(format::BAD_VALUE, 0);
     }
     match fit::fit_value(ty, words, pool, 0, 0, 0, 0, false) {
-        Fitted::Refused(no, detail) => Length::Refused(no, detail),
+        Fitted::Refused(no, detail) => Encoded::Refused(no, detail),
         Fitted::Fits {
             at: _,
             word: _,
@@ -27,10 +32,13 @@ pub fn encode_typed(ty: &[u32], words: &[u64], pool: &[u8], out: &mut [u8]) -> L
             len: n,
         } => {
             if out.len() < n {
-                return Length::Refused(format::NO_ROOM, n as u64);
+                return Encoded::Refused(format::NO_ROOM, n as u64);
             }
-            write::put_value(words, pool, out, 0, 0, 0, 0);
-            Length::Done(n)
+            let put = write::put_value(words, pool, out, 0, 0, 0, 0);
+            Encoded::Done {
+                length: n,
+                zeros: put.zeros,
+            }
         }
     }
 }
@@ -63,31 +71,32 @@ fn fit_key(ty: &[u32], words: &[u64], pool: &[u8]) -> Fitted
     fit::fit_fields(ty, words, pool, 2, 2, 0, count, 0, false)
 }
 
-// Writes a key that was measured and fits at the buffer's beginning.
-fn put_key(ty: &[u32], words: &[u64], pool: &[u8], out: &mut [u8])
+// Writes a key that was measured and fits at the buffer's beginning, and returns how many zeros were escaped.
+fn put_key(ty: &[u32], words: &[u64], pool: &[u8], out: &mut [u8]) -> usize
     requires { ⌜ Accepted (now ty) (now words) (now pool) ⌝ }
-    ensures { λ _. ⌜ PutKey (now (ty .entry)) (now (words .entry)) (now (pool .entry)) (now (out .entry)) (now (out .exit)) ⌝ }
+    ensures { λ r. ⌜ PutKey (now (ty .entry)) (now (words .entry)) (now (pool .entry)) (now (out .entry)) r (now (out .exit)) ⌝ }
 {
     if !top_bare(ty) {
-        write::put_value(words, pool, out, 0, 0, 0, 0);
-        return;
+        let whole = write::put_value(words, pool, out, 0, 0, 0, 0);
+        return whole.zeros;
     }
     let count = words[1];
-    write::put_fields(words, pool, out, 2, 0, 0, count, 0);
+    let bare = write::put_fields(words, pool, out, 2, 0, 0, count, 0);
+    bare.zeros
 }
 
 // Encodes a value as a key of its type at the buffer's beginning.
-pub fn encode_key(ty: &[u32], words: &[u64], pool: &[u8], out: &mut [u8]) -> Length
-    ensures { λ r. ⌜ Leaves (encodeKeyCall (now (ty .entry)) (now (words .entry)) (now (pool .entry)) (now (out .entry))) r (now (out .exit)) ⌝ }
+pub fn encode_key(ty: &[u32], words: &[u64], pool: &[u8], out: &mut [u8]) -> Encoded
+    ensures { λ r. ⌜ Encodes encodeKeyCall encodeKeyZeros (now (ty .entry)) (now (words .entry)) (now (pool .entry)) (now (out .entry)) r (now (out .exit)) ⌝ }
 {
     if !sheet::admit_type(ty) {
-        return Length::Refused(format::BAD_TYPE, 0);
+        return Encoded::Refused(format::BAD_TYPE, 0);
     }
     if !sheet::admit_value(words, pool) {
-        return Length::Refused(format::BAD_VALUE, 0);
+        return Encoded::Refused(format::BAD_VALUE, 0);
     }
     match fit_key(ty, words, pool) {
-        Fitted::Refused(no, detail) => Length::Refused(no, detail),
+        Fitted::Refused(no, detail) => Encoded::Refused(no, detail),
         Fitted::Fits {
             at: _,
             word: _,
@@ -95,13 +104,13 @@ pub fn encode_key(ty: &[u32], words: &[u64], pool: &[u8], out: &mut [u8]) -> Len
             len,
         } => {
             if format::MAX_KEY_BYTES < len {
-                return Length::Refused(format::KEY_TOO_LONG, len as u64);
+                return Encoded::Refused(format::KEY_TOO_LONG, len as u64);
             }
             if out.len() < len {
-                return Length::Refused(format::NO_ROOM, len as u64);
+                return Encoded::Refused(format::NO_ROOM, len as u64);
             }
-            put_key(ty, words, pool, out);
-            Length::Done(len)
+            let zeros = put_key(ty, words, pool, out);
+            Encoded::Done { length: len, zeros }
         }
     }
 }

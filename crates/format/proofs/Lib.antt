@@ -64,6 +64,7 @@
 -- Ranges       strinc writes the least end above a prefix
 -- RangeExamples   such ends worked by hand, and wrong ones that are not the least
 -- Blank        optional types: a blank is 00 or 00 FF and sorts first, anything else is the type behind word 7; no 7 straight behind another
+-- ZeroLaws     the zeros escaped in a run, in a value and by a call: those of the pool
 pub mod Specimens
 pub mod KeylistExample
 pub mod Bytes
@@ -115,3 +116,4 @@ pub mod SearchLaws
 pub mod Ranges
 pub mod RangeExamples
 pub mod Blank
+pub mod ZeroLaws

@@ -26,3 +26,4 @@ pub mod ReferenceSplit
 pub mod Search
 pub mod Ranges
 pub mod Blank
+pub mod Zeros

@@ -69,7 +69,7 @@ module _ (b x : List ℕ) (p e u : ℕ) (pe : p ≤ e) (eu : e ≤ u) (ub : u �
 
 -- bytes behind the part moved, and the value of a sheet written in its place
 pub spliced-by : {buffer : List ℕ} {used start end n : ℕ} {words pool m out : List ℕ} {r : Put} → Puts buffer used start end n
-    → m ≡ put buffer (start + n) (take (used - end) (drop end buffer)) → WroteValue words pool (standing 0 0 start) 0 m r out
+    → m ≡ put buffer (start + n) (take (used - end) (drop end buffer)) → WroteValue words pool (standing 0 0 start 0) 0 m r out
     → Splices buffer used start end n words pool out
 spliced-by {buffer} {used} {start} {end} {n} {words} {pool} {m} p e w = record {
   splices = λ t v s pr f l.

@@ -1,7 +1,7 @@
 // Question three of the apprentice exam: two batches and one tank; which batch may be dosed? Answered from the keys alone: a batch belongs to the tank
 // where its key lies between the tank's two ends. Then the same for tags that end in a zero.
 use blocks::Order;
-use format::Length;
+use encode::Encoded;
 use key::Bounded;
 
 fn below(a: &[u8], b: &[u8]) -> bool {
@@ -53,11 +53,11 @@ fn key_len(tag: &[u8], number: u64, out: &mut [u8]) -> usize {
         tag,
         out,
     ) {
-        Length::Refused(no, detail) => {
+        Encoded::Refused(no, detail) => {
             show::refusal(no, detail);
             0
         }
-        Length::Done(n) => n,
+        Encoded::Done { length, zeros: _ } => length,
     }
 }
 

@@ -6,6 +6,7 @@ use crate::lines::decode_line;
 use crate::lines::decoded;
 use crate::lines::encode_line;
 use crate::lines::encoded;
+use crate::lines::encoded_length;
 use crate::lines::key_line;
 use crate::lines::length_line;
 use crate::lines::skip_line;
@@ -26,19 +27,19 @@ fn lengths() {
     let mut out = [0u8; 65532];
     let mut two = [0u8; 2];
     show::text(b"their length\n");
-    length_line(encode::encode_key(
+    encoded_length(encode::encode_key(
         &[5, 2, 7, 1, 3],
         &[5, 2, 0, 3, 65528],
         &[1u8; 65528],
         &mut out,
     ));
-    length_line(encode::encode_key(
+    encoded_length(encode::encode_key(
         &[5, 2, 7, 1, 3],
         &[5, 2, 0, 3, 65529],
         &[1u8; 65529],
         &mut out,
     ));
-    length_line(encode::encode_key(&[7, 3], &[3, 65530], &[1u8; 65530], &mut out));
+    encoded_length(encode::encode_key(&[7, 3], &[3, 65530], &[1u8; 65530], &mut out));
     encoded(
         encode::encode_key(&[5, 2, 7, 3, 1], &[5, 2, 0, 1, 7], b"", &mut two),
         b"",

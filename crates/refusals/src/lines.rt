@@ -1,13 +1,14 @@
 // A call's answer on a line: bytes, numbers, or refusal and detail.
 use decode::Decoded;
+use encode::Encoded;
 use format::Length;
 use key::Bounded;
 use order::Compared;
 
-pub fn encoded(r: Length, out: &[u8]) {
+pub fn encoded(r: Encoded, out: &[u8]) {
     match r {
-        Length::Refused(no, detail) => show::refusal(no, detail),
-        Length::Done(n) => show::line(out, n),
+        Encoded::Refused(no, detail) => show::refusal(no, detail),
+        Encoded::Done { length, zeros: _ } => show::line(out, length),
     }
 }
 
@@ -92,13 +93,22 @@ pub fn bounds_line(ty: &[u32], key: &[u8], k: usize) {
     }
 }
 
+fn bytes_line(len: usize) {
+    show::text(b"bytes ");
+    show::number(len as u64);
+    show::text(b"\n");
+}
+
 pub fn length_line(r: Length) {
     match r {
         Length::Refused(no, detail) => show::refusal(no, detail),
-        Length::Done(len) => {
-            show::text(b"bytes ");
-            show::number(len as u64);
-            show::text(b"\n");
-        }
+        Length::Done(len) => bytes_line(len),
+    }
+}
+
+pub fn encoded_length(r: Encoded) {
+    match r {
+        Encoded::Refused(no, detail) => show::refusal(no, detail),
+        Encoded::Done { length, zeros: _ } => bytes_line(length),
     }
 }

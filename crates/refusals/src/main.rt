@@ -8,8 +8,8 @@ use crate::lines::decode_key_line;
 use crate::lines::decode_line;
 use crate::lines::encode_line;
 use crate::lines::encoded;
+use crate::lines::encoded_length;
 use crate::lines::key_line;
-use crate::lines::length_line;
 use crate::lines::skip_line;
 use format::Length;
 
@@ -227,7 +227,7 @@ fn fill_words(words: &mut [u64]) {
 fn nested(ty: &mut [u32], words: &mut [u64], out: &mut [u8]) {
     fill_type(ty);
     fill_words(words);
-    length_line(encode::encode_typed(ty, words, b"", out));
+    encoded_length(encode::encode_typed(ty, words, b"", out));
 }
 
 fn nested_records() {
@@ -238,7 +238,7 @@ fn nested_records() {
 }
 
 fn bytes_key(pool: &[u8], out: &mut [u8]) {
-    length_line(encode::encode_key(&[3], &[3, pool.len() as u64], pool, out));
+    encoded_length(encode::encode_key(&[3], &[3, pool.len() as u64], pool, out));
 }
 
 fn longest_key() {

@@ -1,5 +1,5 @@
-// encode_typed and encode_key: type words pool room = refusal detail length bytes. decode_typed and decode_key: type bytes room-of-words room-of-pool =
-// refusal detail begun words pool the-words the-pool. check_key: type bytes = refusal detail begun.
+// encode_typed and encode_key: type words pool room = refusal detail length zeros bytes. decode_typed and decode_key: type bytes room-of-words
+// room-of-pool = refusal detail begun words pool the-words the-pool. check_key: type bytes = refusal detail begun.
 use crate::answers;
 use tuple::answers::Sheet;
 use tuple::sheets;
@@ -12,7 +12,8 @@ fn encoded(line: &[u8], key: bool, ty: &[u32], words: &[u64], pool: &[u8]) -> bo
     } else {
         sheets::tuple_encode_typed(ty, words, pool, &mut out[..n])
     };
-    answers::wrote(line, 6, a, 0, &out)
+    lines::are_decimals(line, 6, &[a.refusal as u64, a.detail, a.length, a.zeros])
+        & answers::written(line, 10, 0, a.length as usize, &out)
 }
 
 pub fn encode(line: &[u8], key: bool, ty: &[u32]) -> bool {

@@ -8,6 +8,8 @@ use lib.ListN.{length, getD, drop, length-append, drop-of-length-le}
 use lib.Seq.{slice, length-slice, drop-cons, drop-drop}
 use Rattle.format.specs.Scalar.{escaped}
 use Rattle.format.specs.Fields.{put}
+use Rattle.format.specs.Zeros.{zeros}
+use Rattle.format.proofs.ZeroLaws.{escaped-long}
 use Rattle.blocks.specs.Zeros.{NoZero, ZeroFrom}
 use Rattle.blocks.proofs.Spans.{drop-split, span-slice}
 use Rattle.blocks.proofs.Put.{put-put, Left, left-chunk}
@@ -102,3 +104,7 @@ module _ (s : List ℕ) (z : ℕ) (l : z ≤ length s) (none : NoZero s 0 z) whe
       ∙ ap (λ (k : ℕ). put (put d at (slice 0 z s)) (at + k) (escaped (drop z s))) (sym n)
       ∙ put-put d at (slice 0 z s) (escaped (drop z s)) (omega arith)
       ∙ ap (put d at) (sym front-split)
+
+  -- both: the payload, an escape for each zero, and the end
+  pub front-counted : z + length (escaped (drop z s)) ≡ length s + zeros s + 1
+  front-counted = omega (arith, front-ahead, escaped-long s)

@@ -10,9 +10,9 @@ use borrow.Author.Tests.{eq-eqb, ne-eqb, eqb-true, eqb-false}
 use Rattle.format.specs.Scalar.{escaped}
 use Rattle.format.specs.Read.{Read, got, bad, consRead, getRun, afterZero}
 use Rattle.format.specs.Fields.{hasZero}
+use Rattle.format.specs.Zeros.{zeros}
 use Rattle.format.proofs.BackLaws.{cons-got}
-use Rattle.blocks.specs.Zeros.{zeros}
-use Rattle.blocks.proofs.Counts.{zeros-zero, zeros-byte, zeros-nil, zeros-le}
+use Rattle.format.proofs.ZeroLaws.{zeros-zero, zeros-byte, zeros-nil, zeros-le, escaped-long}
 use Rattle.scalar.specs.Runs.{unescape}
 use Rattle.scalar.proofs.Cases.{by-test}
 use Rattle.scalar.proofs.Reading.{no-got}
@@ -30,15 +30,6 @@ escaped-byte b t h = rw (ne-eqb _ _ h)
 pub escaped-zero : (b : ℕ) (t : List ℕ) → b ≡ 0 → escaped (b ∷ t) ≡ 0 ∷ 0xFF ∷ escaped t
 unfolding escaped
 escaped-zero b t h = rw (eq-eqb _ _ h)
-
--- its own bytes, one more for each zero, and the end
-pub escaped-long : (s : List ℕ) → length (escaped s) ≡ length s + zeros s + 1
-escaped-long [] = rw (escaped-none, zeros-nil)
-escaped-long (b ∷ s) =
-    let r = escaped-long s in
-    by-test (eqb b 0)
-    (λ e. let z : b ≡ 0 = eqb-true b 0 e in rw (escaped-zero b s z, zeros-zero b s z) (omega arith))
-    (λ e. let z : b ≡ 0 → ⊥ = eqb-false b 0 e in rw (escaped-byte b s z, zeros-byte b s z) (omega arith))
 
 pub escaped-bounds : (s : List ℕ) → (length s + 1 ≤ length (escaped s)) × (length (escaped s) ≤ 2 * length s + 1)
 escaped-bounds s = let l = escaped-long s in let z = zeros-le s in (omega arith, omega arith)

@@ -9,8 +9,9 @@ use lib.ListN.{length, getD, take, drop, drop-of-length-le, length-take, length-
 use lib.Seq.{slice}
 use borrow.Author.Tests.{ltb-true, ltb-false}
 use Rattle.format.specs.Read.{Read, got, bad, marked, consRead, getRun}
-use Rattle.blocks.specs.Zeros.{ZeroFrom, zeros}
-use Rattle.blocks.proofs.Counts.{zeros-nil, zeros-le}
+use Rattle.format.specs.Zeros.{zeros}
+use Rattle.format.proofs.ZeroLaws.{zeros-nil, zeros-le}
+use Rattle.blocks.specs.Zeros.{ZeroFrom}
 use Rattle.scalar.specs.Runs.{measured, measuredBy, endBy, runEnd, markedBy, unescape, payloadTo, RunIn}
 use Rattle.scalar.specs.declared.runs.Measure.{Measure}
 use Rattle.scalar.specs.declared.runs.Measure.the-variants.{Run, Unended}

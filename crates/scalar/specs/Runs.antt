@@ -1,16 +1,25 @@
--- A run in two steps, as the code takes it: where it ends and how long its payload is, then the payload itself.
+-- A run as it is written; and read in two steps, as the code takes it: where it ends and how long its payload is, then the payload itself.
 use mathlib.Core.List.{List, [], _∷_}
 use mathlib.Core.Path.{_≡_}
 use Prim.Native.Nat.{ℕ, _+_, _-_, _<_}
 use lib.Dec.{eqb}
 use lib.ListN.{length, take, drop}
 use Rattle.format.specs.Answer.{if}
+use Rattle.format.specs.Scalar.{escaped}
 use Rattle.format.specs.Read.{Read, got, bad, getRun}
-use Rattle.blocks.specs.Zeros.{zeros}
+use Rattle.format.specs.Fields.{put}
+use Rattle.format.specs.Zeros.{zeros}
+use Rattle.scalar.specs.declared.runs.Written.{Written}
 use Rattle.scalar.specs.declared.runs.Measure.{Measure}
 use Rattle.scalar.specs.declared.runs.Measure.the-variants.{Run, Unended}
 use Rattle.scalar.specs.declared.runs.MarkedRun.{MarkedRun}
 use Rattle.scalar.specs.declared.runs.MarkedRun.the-variants.{Ends, Refused}
+
+-- a payload stands as a run from `at` on, and r has the place behind it and the payload's zeros, each of which was escaped
+pub record WritesRun (l : List ℕ) (at : ℕ) (s : List ℕ) (r : Written) (l′ : List ℕ) : Type 0 where
+  pub ends : r .end ≡ at + length (escaped s)
+  pub wrote : l′ ≡ put l at (escaped s)
+  pub counted : r .zeros ≡ zeros s
 
 -- the terminator's place and the payload's length, by what reading the run finds
 abbrev pub measuredBy : List ℕ → Read (List ℕ) → Measure

@@ -84,7 +84,8 @@ fn put_run(buf: &mut [u8], at: usize, mark: u8, payload: &[u8]) -> Length
     match room(buf.len(), at, 1, runs::escaped_len(payload)) {
         Length::Done(_) => {
             buf[at] = mark;
-            Length::Done(runs::write_escaped(buf, at + 1, payload))
+            let run = runs::write_escaped(buf, at + 1, payload);
+            Length::Done(run.end)
         }
         Length::Refused(no, detail) => Length::Refused(no, detail),
     }

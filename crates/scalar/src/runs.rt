@@ -6,7 +6,7 @@ ghost use Rattle.format.specs.Scalar.{escaped};
 ghost use Rattle.format.specs.Utf8.{utf8};
 ghost use Rattle.format.specs.Read.{marked, getRun};
 ghost use Rattle.format.specs.Fields.{put};
-ghost use Rattle.scalar.specs.Runs.{measured, runEnd, markedBy, unescape};
+ghost use Rattle.scalar.specs.Runs.{WritesRun, measured, runEnd, markedBy, unescape};
 
 // How many bytes the run of a payload has: its own, one more for each zero, and the end.
 pub fn escaped_len(payload: &[u8]) -> usize
@@ -40,13 +40,21 @@ fn write_rest(buf: &mut [u8], at: usize, payload: &[u8], from: usize) -> usize
     o + 1
 }
 
-// Writes a payload as a run from a place on, and returns the place behind it. Long bytes before the first zero go in one pass.
-pub fn write_escaped(buf: &mut [u8], at: usize, payload: &[u8]) -> usize
+// The place behind what was written, and how many zeros were escaped in it.
+pub struct Written {
+    pub end: usize,
+    pub zeros: usize,
+}
+
+// Writes a payload as a run from a place on. Long bytes before the first zero go in one pass. What the run has beside the payload and its end are the escapes.
+pub fn write_escaped(buf: &mut [u8], at: usize, payload: &[u8]) -> Written
     requires { ⌜ at + length (escaped (now payload)) ≤ length (now buf) ⌝ }
-    ensures { λ r. ⌜ (r ≡ at + length (escaped (now (payload .entry)))) × (now (buf .exit) ≡ put (now (buf .entry)) at (escaped (now (payload .entry)))) ⌝ }
+    ensures { λ r. ⌜ WritesRun (now (buf .entry)) at (now (payload .entry)) r (now (buf .exit)) ⌝ }
 {
     let i = blocks::copy_clear(buf, at, payload);
-    write_rest(buf, at + i, payload, i)
+    let end = write_rest(buf, at + i, payload, i);
+    let zeros = end - at - payload.len() - 1;
+    Written { end, zeros }
 }
 
 // Where a run's terminator is and how many bytes its payload has, if it ends.

@@ -2,6 +2,7 @@
 // each pair it prints both keys, the ends that the bounds call gives for the first one's first field, which of the two keys lies between them, and which would with
 // strinc as the upper end.
 use blocks::Order;
+use encode::Encoded;
 use format::Length;
 use key::Bounded;
 
@@ -65,11 +66,11 @@ fn bounds_line(ty: &[u32], a: &[u8], b: &[u8], k: usize) {
 // A key's length in its buffer, 0 for a refused one, which is printed.
 fn key_len(ty: &[u32], words: &[u64], pool: &[u8], out: &mut [u8]) -> usize {
     match encode::encode_key(ty, words, pool, out) {
-        Length::Refused(no, detail) => {
+        Encoded::Refused(no, detail) => {
             show::refusal(no, detail);
             0
         }
-        Length::Done(n) => n,
+        Encoded::Done { length, zeros: _ } => length,
     }
 }
 

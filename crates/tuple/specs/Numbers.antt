@@ -10,10 +10,12 @@ use Rattle.format.specs.Answer.{Answer, ok, refused, BadLine}
 use Rattle.format.specs.Calls as calls
 use Rattle.format.specs.Fields as fields
 use Rattle.format.specs.Fields.{Taken, Place, inKey, inScratch, Payload}
+use Rattle.format.specs.Zeros.{zeros}
 use Rattle.decode.specs.declared.Decoded.{Decoded}
 use Rattle.decode.specs.declared.CheckedKey.{CheckedKey}
 use Rattle.decode.specs.Answers as decode
 use Rattle.tuple.specs.declared.answers.Length.{Length}
+use Rattle.tuple.specs.declared.answers.Encoded.{Encoded}
 use Rattle.tuple.specs.declared.answers.Sheet.{Sheet}
 use Rattle.tuple.specs.declared.answers.Ends.{Ends}
 use Rattle.tuple.specs.declared.answers.Order.{Order}
@@ -25,6 +27,10 @@ use Rattle.tuple.specs.declared.answers.Part.{Part}
 abbrev pub lengthOf : Answer ℕ → Length
 lengthOf (ok n) = record { refusal = 0; detail = 0; length = n }
 lengthOf (refused n d) = record { refusal = n; detail = d; length = 0 }
+
+abbrev pub encodedOf : Answer ℕ → (zeros : ℕ) → Encoded
+encodedOf (ok n) z = record { refusal = 0; detail = 0; length = n; zeros = z }
+encodedOf (refused n d) z = record { refusal = n; detail = d; length = 0; zeros = 0 }
 
 abbrev pub sheetOf : Answer calls.Sizes → (begun : ℕ) → Sheet
 sheetOf (ok s) k = record { refusal = 0; detail = 0; begun = k; words = s .words; pool = s .pool }
@@ -65,6 +71,12 @@ partOf (refused n d) = record { refusal = n; detail = d; source = 0; at = 0; len
 pub record Writes (c : calls.Called ℕ) (r : Length) (buffer : List ℕ) : Type 0 where
   pub answer : r ≡ lengthOf (c .answer)
   pub left : buffer ≡ c .buffer
+
+-- an encoding call shows the zeros that its definition has; where refusal is 0 they are the zero bytes of the pool
+pub record Encodes (call : (ty words pool out : List ℕ) → calls.Called ℕ) (shown : (ty words pool out : List ℕ) → ℕ) (ty words pool out : List ℕ) (r : Encoded) (left : List ℕ) : Type 0 where
+  pub answer : r ≡ encodedOf (call ty words pool out .answer) (shown ty words pool out)
+  pub buffer : left ≡ call ty words pool out .buffer
+  pub of-pool : r .refusal ≡ 0 → r .zeros ≡ zeros pool
 
 -- the values begun are at most the number of bytes plus 1
 pub record Fills (c : calls.Filled) (bytes : List ℕ) (r : Sheet) (words pool : List ℕ) : Type 0 where

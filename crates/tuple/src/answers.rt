@@ -9,10 +9,11 @@ ghost use mathlib.Core.Path.{_≡_};
 ghost use Prim.Native.Nat.{Ordering·lt, Ordering·eq, Ordering·gt};
 ghost use Rattle.format.specs.Answer.{ok, refused};
 ghost use Rattle.format.specs.Lengths.{lengthIn};
+ghost use Rattle.encode.specs.Encoded as encoding;
 ghost use Rattle.scalar.specs.Answers.{gotInt, gotPart};
 ghost use Rattle.order.specs.Compare.{comparedOf};
 ghost use Rattle.key.specs.Keys.{boundedOf};
-ghost use Rattle.tuple.specs.Numbers.{lengthOf, sheetOf, endsOf, orderOf, numberOf, partOf, keyAt, scratchOf, sizes, ends, taken, decodedNumbers, checkedNumbers};
+ghost use Rattle.tuple.specs.Numbers.{lengthOf, encodedOf, sheetOf, endsOf, orderOf, numberOf, partOf, keyAt, scratchOf, sizes, ends, taken, decodedNumbers, checkedNumbers};
 
 // Bytes written, an end, a place or a used length.
 #[repr(C)]
@@ -20,6 +21,15 @@ pub struct Length {
     pub refusal: u32,
     pub detail: u64,
     pub length: u64,
+}
+
+// Bytes written by an encoding call, and the zeros escaped in them.
+#[repr(C)]
+pub struct Encoded {
+    pub refusal: u32,
+    pub detail: u64,
+    pub length: u64,
+    pub zeros: u64,
 }
 
 // Values begun, and the words and pool bytes written.
@@ -86,6 +96,28 @@ pub fn no_length(no: u32, detail: u64) -> Length
         refusal: no,
         detail,
         length: 0,
+    }
+}
+
+fn to_encoded(length: usize, zeros: usize) -> Encoded
+    ensures { λ r. ⌜ r ≡ encodedOf (ok length) zeros ⌝ }
+{
+    Encoded {
+        refusal: 0,
+        detail: 0,
+        length: length as u64,
+        zeros: zeros as u64,
+    }
+}
+
+fn no_encoded(no: u32, detail: u64) -> Encoded
+    ensures { λ r. ⌜ r ≡ encodedOf (refused no detail) 0 ⌝ }
+{
+    Encoded {
+        refusal: no,
+        detail,
+        length: 0,
+        zeros: 0,
     }
 }
 
@@ -242,6 +274,15 @@ pub fn of_length(answer: format::Length) -> Length
     match answer {
         format::Length::Done(n) => to_length(n),
         format::Length::Refused(no, detail) => no_length(no, detail),
+    }
+}
+
+pub fn of_encoded(answer: encode::Encoded) -> Encoded
+    ensures { λ r. ⌜ r ≡ encodedOf (encoding.lengthIn answer) (encoding.zerosIn answer) ⌝ }
+{
+    match answer {
+        encode::Encoded::Done { length, zeros } => to_encoded(length, zeros),
+        encode::Encoded::Refused(no, detail) => no_encoded(no, detail),
     }
 }
 

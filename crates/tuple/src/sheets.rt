@@ -1,9 +1,10 @@
-// Encoding and decoding whole values.
+// Encoding and decoding whole values. An accepted encoding call shows the zero bytes of the pool, a refused one 0 (theorem `zeros-escaped`).
 use crate::answers;
-use crate::answers::Length;
+use crate::answers::Encoded;
 use crate::answers::Sheet;
 ghost use Rattle.format.specs.Calls.{encodeTypedCall, encodeKeyCall, decodeTypedCall, decodeKeyCall, checkKeyCall};
-ghost use Rattle.tuple.specs.Numbers.{Writes, Fills, Checks};
+ghost use Rattle.format.specs.Zeros.{encodeTypedZeros, encodeKeyZeros};
+ghost use Rattle.tuple.specs.Numbers.{Encodes, Fills, Checks};
 
 #[no_mangle]
 pub extern "C" fn tuple_encode_typed(
@@ -11,17 +12,22 @@ pub extern "C" fn tuple_encode_typed(
     words: &[u64],
     pool: &[u8],
     out: &mut [u8],
-) -> Length
-    ensures { λ r. ⌜ Writes (encodeTypedCall (now (ty .entry)) (now (words .entry)) (now (pool .entry)) (now (out .entry))) r (now (out .exit)) ⌝ }
+) -> Encoded
+    ensures { λ r. ⌜ Encodes encodeTypedCall encodeTypedZeros (now (ty .entry)) (now (words .entry)) (now (pool .entry)) (now (out .entry)) r (now (out .exit)) ⌝ }
 {
-    answers::of_length(encode::encode_typed(ty, words, pool, out))
+    answers::of_encoded(encode::encode_typed(ty, words, pool, out))
 }
 
 #[no_mangle]
-pub extern "C" fn tuple_encode_key(ty: &[u32], words: &[u64], pool: &[u8], out: &mut [u8]) -> Length
-    ensures { λ r. ⌜ Writes (encodeKeyCall (now (ty .entry)) (now (words .entry)) (now (pool .entry)) (now (out .entry))) r (now (out .exit)) ⌝ }
+pub extern "C" fn tuple_encode_key(
+    ty: &[u32],
+    words: &[u64],
+    pool: &[u8],
+    out: &mut [u8],
+) -> Encoded
+    ensures { λ r. ⌜ Encodes encodeKeyCall encodeKeyZeros (now (ty .entry)) (now (words .entry)) (now (pool .entry)) (now (out .entry)) r (now (out .exit)) ⌝ }
 {
-    answers::of_length(encode::encode_key(ty, words, pool, out))
+    answers::of_encoded(encode::encode_key(ty, words, pool, out))
 }
 
 #[no_mangle]

@@ -1,4 +1,4 @@
--- A group by the numbers on its sheet, as PlainLaws has the values that are none: the values in it, a union's payload being one, and the bytes before and behind.
+-- A group by the numbers on its sheet, as PlainLaws has the values that are none: the values in it, a union's payload being one, the bytes before and behind, and the zeros.
 use mathlib.Core.Bool.{Bool}
 use mathlib.Core.Path.{_≡_, refl, ap}
 use mathlib.Core.List.{List, [], _∷_, _++_, append-nil}
@@ -11,6 +11,7 @@ use Rattle.format.specs.Tree.{Ty, Tys, Val, Vals, valKind, numberIn, fieldsIn, 
 use Rattle.format.specs.Sheet.{valCount, valWords, valPool, valsWords, valsPool}
 use Rattle.format.specs.ValueSheet.{Proper, AllProper}
 use Rattle.format.specs.Encode.{valBytes, valsBytes, fits, fitsAll, fine}
+use Rattle.format.specs.Zeros.{valZeros, valsZeros}
 use Rattle.format.proofs.ValuePlaces.{ValueIn, ValuesIn, wordOf, record-in, union-in}
 use Rattle.format.proofs.Tests.{Test, holds, fails, eqb-test}
 use Rattle.format.proofs.KindLaws.{built}
@@ -25,19 +26,20 @@ pub record Group (words pool : List ℕ) (w p e f k x depth : ℕ) (v : Val) : T
   pub count : groupCount k x ≡ valCount inside
   pub stand : ValuesIn words pool (w + 2) p inside e f
   pub bytes : valBytes depth v ≡ groupBytes k x ++ (valsBytes (depth + 1) inside ++ 0 ∷ [])
+  pub zeros : valZeros v ≡ valsZeros inside
 
 module _ (words pool : List ℕ) (w p e f depth : ℕ) (t : Ty) where
   abbrev Grouped : Val → Type 0
   Grouped v = fits t depth v ≡ fine → Proper v → ValueIn words pool w p v e f → Group words pool w p e f (valKind v) (wordOf v) depth v
 
   a-record : (vs : Vals) → Grouped (Val.Record vs)
-  unfolding valBytes Proper
+  unfolding valBytes Proper valZeros
   a-record vs fit ok i =
       let h = fields-fit t depth vs fit in
-      record { types = h .0; inside = vs; fit = h .1; proper = ok; count = refl; stand = record-in words pool w p e f vs i; bytes = refl }
+      record { types = h .0; inside = vs; fit = h .1; proper = ok; count = refl; stand = record-in words pool w p e f vs i; bytes = refl; zeros = refl }
 
   a-union : (d : ℕ) (u : Val) → Grouped (Val.Union d u)
-  unfolding fits valBytes valCount valsWords valsPool tagBytes Proper
+  unfolding fits valBytes valCount valsWords valsPool tagBytes Proper valZeros
   a-union d u fit ok i =
       let h = payload-fits t depth d u fit in
       let j = union-in words pool w p e f d u i in
@@ -49,6 +51,7 @@ module _ (words pool : List ℕ) (w p e f depth : ℕ) (t : Ty) where
         count = refl;
         stand = record { words = rw (append-nil (valWords u)) (j .words); pool = rw (append-nil (valPool u)) (j .pool) };
         bytes = rw (lt-ltb d 4294967296 (ok .0), append-nil (valBytes (depth + 1) u));
+        zeros = omega arith;
       }
 
   pub group : {k x : ℕ} (v : Val) → valKind v ≡ k → wordOf v ≡ x → 5 ≤ k → fits t depth v ≡ fine → Proper v → ValueIn words pool w p v e f → Group words pool w p e f k x depth v

@@ -4,18 +4,21 @@ use mathlib.Core.List.{List, [], _∷_, _++_}
 use Prim.Native.Nat.{ℕ, _+_, _-_, _≤_, _<_}
 use native.Mathlib.Omega.{arith}
 use lib.ListN.{length, getD, take, drop, length-append}
-use lib.Seq.{slice, take-add, drop-at, length-take-le}
+use lib.Seq.{slice, take-add, drop-at, length-take-le, length-slice}
 use Rattle.format.specs.Tree.{Tys, Val, Vals, valKind}
 use Rattle.format.specs.Sheet.{valWords, valPool, valCount, valsWords, valsPool}
 use Rattle.format.specs.ValueSheet.{Proper, AllProper}
 use Rattle.format.specs.Encode.{nullBytes, valBytes, valsBytes, fits, fitsAll, fine}
+use Rattle.format.specs.Zeros.{zeros, valZeros, valsZeros}
 use Rattle.format.proofs.ValuePlaces.{ValueIn, ValuesIn, wordOf, kind-is, word-is, field-in}
 use Rattle.format.proofs.KindLaws.{is-null}
 use Rattle.format.proofs.FitLaws.{clash, both-fit}
-use Rattle.format.proofs.PlainLaws.{plainPool, plainBytes, Plain, plain}
+use Rattle.format.proofs.PlainLaws.{plainPool, plainBytes, Plain, plain, part-is}
+use Rattle.format.proofs.ZeroLaws.{zeros-le, pool-zeros}
 use Rattle.blocks.proofs.Put.{put-none, put-then}
+use Rattle.scalar.specs.declared.runs.Written.{Written}
 use Rattle.write.specs.declared.Put.{Put}
-use Rattle.write.specs.Write.{standing, groupCount, groupBytes, Stored, Ready, Onward, Done, Row, WroteValue, WroteFields}
+use Rattle.write.specs.Write.{standing, groupCount, groupBytes, Stored, Counted, Ready, Onward, Done, Row, WroteValue, WroteFields}
 use Rattle.write.proofs.Groups.{group}
 
 -- ---- a value
@@ -37,7 +40,7 @@ module _ {words pool : List ℕ} {s : Put} {depth : ℕ} {l : List ℕ} (a : Rea
   stays : ((v : Val) (e f : ℕ) → ValueIn words pool (s .word) (s .pool) v e f → ⊥) → WroteValue words pool s depth l s l
   stays h =
       record {
-        onward = record { on = omega arith; word-in = a .word-in; pool-in = a .pool-in; at-in = a .at-in; kept = refl };
+        onward = record { on = omega arith; few = omega arith; word-in = a .word-in; pool-in = a .pool-in; at-in = a .at-in; kept = refl };
         says = record { one = λ t v e f fit ok i room. absurd (h v e f i) };
       }
 
@@ -45,17 +48,17 @@ module _ {words pool : List ℕ} {s : Put} {depth : ℕ} {l : List ℕ} (a : Rea
   past h = stays (λ v e f i. omega (arith, kind-is words pool (s .word) (s .pool) e f v i .0))
 
   -- a blank
-  pub wrote-null : {b : ℕ} {l′ : List ℕ} → s .word < length words → getD words (s .word) 0 ≡ 0 → Stored l (s .at) (nullBytes depth) b l′ → WroteValue words pool s depth l (standing (s .word + 1) (s .pool) b) l′
-  unfolding valWords valPool valBytes
+  pub wrote-null : {b : ℕ} {l′ : List ℕ} → s .word < length words → getD words (s .word) 0 ≡ 0 → Stored l (s .at) (nullBytes depth) b l′ → WroteValue words pool s depth l (standing (s .word + 1) (s .pool) b (s .zeros)) l′
+  unfolding valWords valPool valBytes valZeros
   wrote-null h z st =
       record {
-        onward = record { on = omega arith; word-in = omega arith; pool-in = a .pool-in; at-in = st .inside; kept = st .kept };
+        onward = record { on = omega arith; few = omega arith; word-in = omega arith; pool-in = a .pool-in; at-in = st .inside; kept = st .kept };
         says = record {
           one = λ t v e f fit ok i room.
               let q = is-null v (sym (kind-is words pool (s .word) (s .pool) e f v i .1) ∙ z) in
               let j = rw q at i in
               let g = st .right (rw q at room) in
-              rw q (record { at-word = sym (j .words .long); at-pool = omega (arith, j .pool .long); at-byte = g .0; wrote = g .1 });
+              rw q (record { at-word = sym (j .words .long); at-pool = omega (arith, j .pool .long); at-byte = g .0; counted = omega arith; wrote = g .1 });
         };
       }
 
@@ -72,28 +75,48 @@ module _ {words pool : List ℕ} {s : Put} {depth : ℕ} {l : List ℕ} (a : Rea
     pub too-long : k < 5 → length pool - s .pool < plainPool k x → WroteValue words pool s depth l s l
     too-long low h = stays (λ v e f i. let q = plain-here low v i in omega (arith, q .pool-ends, q .pool-in))
 
-    pub wrote-plain : {m b : ℕ} {l′ : List ℕ} → k < 5 → m ≡ plainPool k x → m ≤ length pool - s .pool → Stored l (s .at) (plainBytes k x (take (s .pool + m - s .pool) (drop (s .pool) pool))) b l′
-        → WroteValue words pool s depth l (standing (s .word + 2) (s .pool + m) b) l′
-    wrote-plain {m} low j fits-in lent-st =
+    pub wrote-plain : {m z : ℕ} {w : Written} {l′ : List ℕ} → k < 5 → m ≡ plainPool k x → m ≤ length pool - s .pool
+        → Counted l (s .at) (plainBytes k x (take (s .pool + m - s .pool) (drop (s .pool) pool))) (zeros (take (s .pool + m - s .pool) (drop (s .pool) pool))) w l′
+        → z ≡ w .zeros + s .zeros → WroteValue words pool s depth l (standing (s .word + 2) (s .pool + m) (w .end) z) l′
+    wrote-plain {m} {w = w} low j fits-in lent-st sum =
+        let part = slice (s .pool) (s .pool + m) pool in
         let st = rw (lent (s .pool) m pool (omega (arith, a .pool-in))) at lent-st in
+        let long = length-slice (s .pool) (s .pool + m) pool (omega (arith, a .pool-in)) in
         record {
-          onward = record { on = omega arith; word-in = omega (arith, a .word-in); pool-in = omega (arith, a .pool-in); at-in = st .inside; kept = st .kept };
+          onward = record {
+            on = omega arith;
+            few = omega (arith, st .few, zeros-le part);
+            word-in = omega (arith, a .word-in);
+            pool-in = omega (arith, a .pool-in);
+            at-in = st .stored .inside;
+            kept = st .stored .kept;
+          };
           says = record {
             one = λ t v e f fit ok i room.
                 let q = plain-here low v i in
-                let b : valBytes depth v ≡ plainBytes k x (slice (s .pool) (s .pool + m) pool) = q .bytes ∙ ap (λ (y : ℕ). plainBytes k x (slice (s .pool) (s .pool + y) pool)) (sym j) in
-                let g = st .right (rw b at room) in
-                record { at-word = sym (q .ends); at-pool = omega (arith, q .pool-ends); at-byte = rw b (g .0); wrote = rw b (g .1) };
+                let b : valBytes depth v ≡ plainBytes k x part = q .bytes ∙ ap (λ (y : ℕ). plainBytes k x (slice (s .pool) (s .pool + y) pool)) (sym j) in
+                let here = rw b at room in
+                let g = st .stored .right here in
+                let end : f ≡ s .pool + m = omega (arith, q .pool-ends) in
+                let z : valZeros v ≡ zeros part = pool-zeros v ∙ ap zeros (sym (part-is pool (s .pool) (valPool v) f (i .pool)) ∙ ap (λ (y : ℕ). slice (s .pool) y pool) end) in
+                record { at-word = sym (q .ends); at-pool = sym end; at-byte = rw b (g .0); counted = omega (arith, st .counted here); wrote = rw b (g .1) };
           };
         }
 
     -- a group: its beginning, the values in it one deeper, its end
-    pub wrote-group : {i j : ℕ} {l₁ l₂ l′ : List ℕ} {r : Put} → 5 ≤ k → Stored l (s .at) (groupBytes k x) i l₁ → WroteFields words pool (standing (s .word + 2) (s .pool) i) (groupCount k x) (depth + 1) l₁ r l₂
-        → Stored l₂ (r .at) (0 ∷ []) j l′ → WroteValue words pool s depth l (standing (r .word) (r .pool) j) l′
-    wrote-group {i} {j} {l₁} {l₂} {l′} {r} up st row en =
+    pub wrote-group : {i j z : ℕ} {l₁ l₂ l′ : List ℕ} {r : Put} → 5 ≤ k → Stored l (s .at) (groupBytes k x) i l₁ → WroteFields words pool (standing (s .word + 2) (s .pool) i 0) (groupCount k x) (depth + 1) l₁ r l₂
+        → Stored l₂ (r .at) (0 ∷ []) j l′ → z ≡ r .zeros + s .zeros → WroteValue words pool s depth l (standing (r .word) (r .pool) j z) l′
+    wrote-group {i} {j} {l₁ = l₁} {l₂} {l′} {r} up st row en sum =
         let o = row .onward in
         record {
-          onward = record { on = omega (arith, o .on); word-in = o .word-in; pool-in = o .pool-in; at-in = omega (arith, en .inside, o .kept, st .kept); kept = en .kept ∙ o .kept ∙ st .kept };
+          onward = record {
+            on = omega (arith, o .on);
+            few = omega (arith, o .few);
+            word-in = o .word-in;
+            pool-in = o .pool-in;
+            at-in = omega (arith, en .inside, o .kept, st .kept);
+            kept = en .kept ∙ o .kept ∙ st .kept;
+          };
           says = record {
             one = λ t v e f fit ok h room.
                 let n = numbers words pool (s .word) (s .pool) kw some kx v h in
@@ -111,6 +134,7 @@ module _ {words pool : List ℕ} {s : Put} {depth : ℕ} {l : List ℕ} (a : Rea
                   at-word = d .at-word;
                   at-pool = d .at-pool;
                   at-byte = omega (arith, g .0, d .at-byte, z .0);
+                  counted = omega (arith, q .zeros, d .counted);
                   wrote = put-then l (s .at) begin (inner ++ 0 ∷ []) (omega arith) (g .0) (g .1) (put-then l₁ i inner (0 ∷ []) (omega (arith, st .kept, g .0)) (d .at-byte) (d .wrote) (z .1));
                 });
           };
@@ -120,21 +144,21 @@ module _ {words pool : List ℕ} {s : Put} {depth : ℕ} {l : List ℕ} (a : Rea
 
 abbrev These : (words pool : List ℕ) (s : Put) (n depth : ℕ) (l : List ℕ) (r : Put) (l′ : List ℕ) → Tys → Vals → Type 0
 These words pool s n depth l r l′ ts vs = (e f : ℕ) → fitsAll ts depth vs ≡ fine → AllProper vs → n ≡ valCount vs → ValuesIn words pool (s .word) (s .pool) vs e f
-    → s .at + length (valsBytes depth vs) ≤ length l → Done e f (s .at) l (valsBytes depth vs) r l′
+    → s .at + length (valsBytes depth vs) ≤ length l → Done e f (s .at) (valsZeros vs + s .zeros) l (valsBytes depth vs) r l′
 
 module _ {words pool : List ℕ} {s : Put} {n depth : ℕ} {l : List ℕ} where
   -- none is left
   pub row-none : n ≤ 0 → Row words pool s n depth l s l
-  unfolding valBytes valCount valsWords valsPool
+  unfolding valBytes valCount valsWords valsPool valZeros
   row-none h = record { row = λ ts vs. go vs ts }
     where
       go : (vs : Vals) (ts : Tys) → These words pool s n depth l s l ts vs
-      go Vals.NoVal ts e f fit ok i b room = record { at-word = omega (arith, b .words .long); at-pool = omega (arith, b .pool .long); at-byte = omega arith; wrote = sym (put-none l (s .at)) }
+      go Vals.NoVal ts e f fit ok i b room = record { at-word = omega (arith, b .words .long); at-pool = omega (arith, b .pool .long); at-byte = omega arith; counted = omega arith; wrote = sym (put-none l (s .at)) }
       go (Vals.AddVal v vs) ts e f fit ok i b room = absurd (omega arith)
 
   -- the first, and the rest
   pub row-more : {first r : Put} {m l′ : List ℕ} → 0 < n → WroteValue words pool s depth l first m → Row words pool first (n - 1) depth m r l′ → Row words pool s n depth l r l′
-  unfolding fits valBytes valCount Proper
+  unfolding fits valBytes valCount Proper valZeros
   row-more {first} {r} {m} {l′} h here rest = record { row = go }
     where
       go : (ts : Tys) (vs : Vals) → These words pool s n depth l r l′ ts vs
@@ -150,30 +174,52 @@ module _ {words pool : List ℕ} {s : Put} {n depth : ℕ} {l : List ℕ} where
             at-word = g .at-word;
             at-pool = g .at-pool;
             at-byte = omega (arith, d .at-byte, g .at-byte);
+            counted = omega (arith, d .counted, g .counted);
             wrote = put-then l (s .at) (valBytes depth v) (valsBytes depth vs) (omega arith) (d .at-byte) (d .wrote) (g .wrote);
           }
+
+-- what a value is written as behind others: its zeros are added to those so far
+added : {words pool : List ℕ} {s r : Put} {depth : ℕ} {l l′ : List ℕ} → WroteValue words pool (standing (s .word) (s .pool) (s .at) 0) depth l r l′
+    → WroteValue words pool s depth l (standing (r .word) (r .pool) (r .at) (s .zeros + r .zeros)) l′
+added {s = s} {r = r} v =
+    let o = v .onward in
+    record {
+      onward = record { on = o .on; few = omega (arith, o .few); word-in = o .word-in; pool-in = o .pool-in; at-in = o .at-in; kept = o .kept };
+      says = record {
+        one = λ t u e f fit ok i room.
+            let d = v .says .one t u e f fit ok i room in
+            record { at-word = d .at-word; at-pool = d .at-pool; at-byte = d .at-byte; counted = omega (arith, d .counted); wrote = d .wrote };
+      };
+    }
 
 -- ---- the loop: what the values that are left write, they write of all
 
 pub record Walking (words pool : List ℕ) (s₀ : Put) (n₀ depth : ℕ) (l : List ℕ) (s : Put) (n : ℕ) (l′ : List ℕ) : Type 0 where
-  pub onward : Onward words pool l (s₀ .word) s l′
+  pub onward : Onward words pool l s₀ s l′
   pub so-far : (r : Put) (m : List ℕ) → Row words pool s n depth l′ r m → Row words pool s₀ n₀ depth l r m
 
 module _ {words pool : List ℕ} {s₀ : Put} {n₀ depth : ℕ} {l : List ℕ} where
   pub walk-start : Ready words pool l s₀ depth → Walking words pool s₀ n₀ depth l s₀ n₀ l
-  walk-start a = record { onward = record { on = omega arith; word-in = a .word-in; pool-in = a .pool-in; at-in = a .at-in; kept = refl }; so-far = λ r m row. row }
+  walk-start a = record { onward = record { on = omega arith; few = omega arith; word-in = a .word-in; pool-in = a .pool-in; at-in = a .at-in; kept = refl }; so-far = λ r m row. row }
 
   module _ {s : Put} {n : ℕ} {l′ : List ℕ} (i : Walking words pool s₀ n₀ depth l s n l′) where
     -- the walk stands where the next value may
-    pub walk-ready : depth ≤ s₀ .word + 256 → Ready words pool l′ s depth
+    pub walk-ready : depth ≤ s₀ .word + 256 → Ready words pool l′ (standing (s .word) (s .pool) (s .at) 0) depth
     walk-ready h = record { word-in = i .onward .word-in; pool-in = i .onward .pool-in; at-in = omega (arith, i .onward .at-in, i .onward .kept); deep = omega (arith, i .onward .on) }
 
-    pub walk-value : {r : Put} {m : List ℕ} → 0 < n → WroteValue words pool s depth l′ r m → Walking words pool s₀ n₀ depth l r (n - 1) m
-    walk-value some v =
+    -- as long as there are bytes in the pool
+    pub walk-room : {r : Put} {m : List ℕ} → WroteValue words pool (standing (s .word) (s .pool) (s .at) 0) depth l′ r m → s₀ .pool + (s .zeros + r .zeros) ≤ length pool + s₀ .zeros
+    walk-room v = omega (arith, i .onward .few, v .onward .few, v .onward .pool-in)
+
+    pub walk-value : {r : Put} {m : List ℕ} → 0 < n → WroteValue words pool (standing (s .word) (s .pool) (s .at) 0) depth l′ r m
+        → Walking words pool s₀ n₀ depth l (standing (r .word) (r .pool) (r .at) (s .zeros + r .zeros)) (n - 1) m
+    walk-value some w =
+        let v = added {s = s} w in
         let o = v .onward in
         record {
           onward = record {
             on = omega (arith, i .onward .on, o .on);
+            few = omega (arith, i .onward .few, o .few);
             word-in = o .word-in;
             pool-in = o .pool-in;
             at-in = omega (arith, o .at-in, i .onward .kept);

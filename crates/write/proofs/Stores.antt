@@ -1,12 +1,17 @@
--- Bytes stored in a buffer, one after another, where there is room.
+-- Bytes stored in a buffer, one after another, where there is room; and the zeros escaped in them.
 use mathlib.Core.Path.{_≡_, refl, sym, ap, _∙_}
 use mathlib.Core.List.{List, [], _∷_, _++_}
 use Prim.Native.Nat.{ℕ, _+_, _-_, _≤_, _<_}
 use native.Mathlib.Omega.{arith}
 use lib.ListN.{length, set, length-append, length-set}
+use Rattle.format.specs.Scalar.{escaped}
 use Rattle.format.specs.Fields.{put}
+use Rattle.format.specs.Zeros.{zeros}
+use Rattle.format.proofs.ZeroLaws.{zeros-le}
 use Rattle.blocks.proofs.Put.{put-none, put-then, set-put, length-put}
-use Rattle.write.specs.Write.{Stored}
+use Rattle.scalar.specs.declared.runs.Written.{Written}
+use Rattle.scalar.specs.Runs.{WritesRun}
+use Rattle.write.specs.Write.{Stored, Counted}
 
 pub stored-then : {l m l′ : List ℕ} {at a b : ℕ} {xs ys : List ℕ} → Stored l at xs a m → Stored m a ys b l′ → Stored l at (xs ++ ys) b l′
 stored-then {l} {at = at} {xs = xs} {ys = ys} s t =
@@ -36,3 +41,25 @@ module _ {l : List ℕ} {at : ℕ} where
   -- no bytes
   pub none-stored : at ≤ length l → Stored l at [] at l
   none-stored h = record { inside = h; kept = refl; right = λ f. (omega arith, sym (put-none l at)) }
+
+-- ---- zeros
+
+-- bytes of no payload
+pub none-counted : (s : List ℕ) → length s ≡ 0 → {l : List ℕ} {at : ℕ} {bs : List ℕ} {e : ℕ} {l′ : List ℕ} → Stored l at bs e l′ → Counted l at bs (zeros s) (record { end = e; zeros = 0 }) l′
+none-counted s h st = let few = zeros-le s in record { stored = st; few = omega arith; counted = λ f. omega arith }
+
+-- a mark, and a run behind it
+module _ {l m : List ℕ} {at a b : ℕ} (s : List ℕ) (st : Stored l at (b ∷ []) a m) where
+  pub run-counted : {w : Written} {l′ : List ℕ} → length (escaped s) ≤ length m - a → WritesRun m a s w l′ → Counted l at (b ∷ escaped s) (zeros s) w l′
+  run-counted room run = record {
+    stored = stored-then st (put-stored (omega (arith, st .inside, st .kept)) room (run .ends) (run .wrote));
+    few = omega (arith, run .counted);
+    counted = λ f. run .counted;
+  }
+
+  pub run-short : length m - a < length (escaped s) → Counted l at (b ∷ escaped s) (zeros s) (record { end = a; zeros = 0 }) m
+  run-short h = record {
+    stored = stored-then st (no-room (omega (arith, st .inside, st .kept)) (omega arith));
+    few = omega arith;
+    counted = λ f. absurd (omega (arith, st .kept, st .right (omega arith) .0));
+  }

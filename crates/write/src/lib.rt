@@ -1,4 +1,5 @@
-// The encoder's writing walk. It goes by the value and its depth alone: a value's type has no part in its bytes.
+// The encoder's writing walk. It goes by the value and its depth alone: a value's type has no part in its bytes. The zeros that runs escape are passed upward.
+use scalar::runs::Written;
 ghost use mathlib.Core.Path.{_≡_};
 ghost use mathlib.Core.List.{[], _∷_};
 ghost use Prim.Native.Nat.{_≤_};
@@ -6,21 +7,28 @@ ghost use lib.Dec.{leb};
 ghost use lib.ListN.{length};
 ghost use Rattle.format.specs.Scalar.{intBytes, refBytes, tagBytes, escaped};
 ghost use Rattle.format.specs.Encode.{nullBytes};
+ghost use Rattle.format.specs.Zeros.{zeros};
 ghost use Rattle.format.proofs.PlainLaws.{plainPool, plainBytes};
-ghost use Rattle.write.specs.Write.{standing, groupCount, groupBytes, Stored, Ready, WroteValue, WroteFields};
+ghost use Rattle.write.specs.Write.{standing, groupCount, groupBytes, Stored, Counted, Ready, WroteValue, WroteFields};
 
-// Where the walk stands in the words, the pool and the buffer.
+// Where the walk stands in the words, the pool and the buffer, and how many zeros were escaped on the way there.
 pub struct Put {
     pub word: usize,
     pub pool: usize,
     pub at: usize,
+    pub zeros: usize,
 }
 
-// A walk that stands at these places.
-fn stand(word: usize, pool: usize, at: usize) -> Put
-    ensures { λ r. ⌜ r ≡ standing word pool at ⌝ }
+// A walk that stands at these places, with so many zeros escaped.
+fn stand(word: usize, pool: usize, at: usize, zeros: usize) -> Put
+    ensures { λ r. ⌜ r ≡ standing word pool at zeros ⌝ }
 {
-    Put { word, pool, at }
+    Put {
+        word,
+        pool,
+        at,
+        zeros,
+    }
 }
 
 // One byte, where there is room.
@@ -80,15 +88,15 @@ fn run_fits(payload: &[u8], n: usize) -> bool
 }
 
 // A mark and the run of a payload, where there is room.
-fn put_run(out: &mut [u8], at: usize, mark: u8, payload: &[u8]) -> usize
+fn put_run(out: &mut [u8], at: usize, mark: u8, payload: &[u8]) -> Written
     requires { ⌜ at ≤ length (now out) ⌝ }
-    ensures { λ r. ⌜ Stored (now (out .entry)) at (mark ∷ escaped (now (payload .entry))) r (now (out .exit)) ⌝ }
+    ensures { λ r. ⌜ Counted (now (out .entry)) at (mark ∷ escaped (now (payload .entry))) (zeros (now (payload .entry))) r (now (out .exit)) ⌝ }
 {
-    let run = put_byte(out, at, mark);
-    if run_fits(payload, out.len() - run) {
-        return scalar::runs::write_escaped(out, run, payload);
+    let end = put_byte(out, at, mark);
+    if run_fits(payload, out.len() - end) {
+        return scalar::runs::write_escaped(out, end, payload);
     }
-    run
+    Written { end, zeros: 0 }
 }
 
 // A union's tag, where there is room.
@@ -120,15 +128,17 @@ fn run_of(kind: u64, x: u64) -> usize
 }
 
 // A value that is no group, of a kind and with the second word x, by its bytes of the pool.
-fn put_scalar(out: &mut [u8], at: usize, kind: u64, x: u64, payload: &[u8]) -> usize
-    requires { ⌜ at ≤ length (now out) ⌝ }
-    ensures { λ r. ⌜ Stored (now (out .entry)) at (plainBytes kind x (now (payload .entry))) r (now (out .exit)) ⌝ }
+fn put_scalar(out: &mut [u8], at: usize, kind: u64, x: u64, payload: &[u8]) -> Written
+    requires { ⌜ (at ≤ length (now out)) × (length (now payload) ≡ plainPool kind x) ⌝ }
+    ensures { λ r. ⌜ Counted (now (out .entry)) at (plainBytes kind x (now (payload .entry))) (zeros (now (payload .entry))) r (now (out .exit)) ⌝ }
 {
     if kind == format::VALUE_INT {
-        return put_int(out, at, x);
+        let end = put_int(out, at, x);
+        return Written { end, zeros: 0 };
     }
     if kind == format::VALUE_FACT {
-        return put_ref(out, at, x);
+        let end = put_ref(out, at, x);
+        return Written { end, zeros: 0 };
     }
     if kind == format::VALUE_STR {
         return put_run(out, at, format::MARK_STRING, payload);
@@ -167,36 +177,36 @@ pub fn put_value(
     at: usize,
     depth: usize,
 ) -> Put
-    requires { ⌜ Ready (now words) (now pool) (now out) (standing word from at) depth ⌝ }
-    ensures { λ r. ⌜ WroteValue (now (words .entry)) (now (pool .entry)) (standing word from at) depth (now (out .entry)) r (now (out .exit)) ⌝ }
+    requires { ⌜ Ready (now words) (now pool) (now out) (standing word from at 0) depth ⌝ }
+    ensures { λ r. ⌜ WroteValue (now (words .entry)) (now (pool .entry)) (standing word from at 0) depth (now (out .entry)) r (now (out .exit)) ⌝ }
 {
     if words.len() <= word {
-        return stand(word, from, at);
+        return stand(word, from, at, 0);
     }
     let kind = words[word];
     if kind == format::VALUE_NULL {
         let end = put_null(out, at, depth);
-        return stand(word + 1, from, end);
+        return stand(word + 1, from, end, 0);
     }
     if words.len() - word < 2 {
-        return stand(word, from, at);
+        return stand(word, from, at, 0);
     }
     let x = words[word + 1];
     let next = word + 2;
     if kind < format::VALUE_RECORD {
         let n = run_of(kind, x);
         if pool.len() - from < n {
-            return stand(word, from, at);
+            return stand(word, from, at, 0);
         }
         let behind = from + n;
-        let end = put_scalar(out, at, kind, x, &pool[from..behind]);
-        return stand(next, behind, end);
+        let s = put_scalar(out, at, kind, x, &pool[from..behind]);
+        return stand(next, behind, s.end, s.zeros);
     }
     let inner = open_group(out, at, kind, x);
     let count = count_of(kind, x);
     let r = put_fields(words, pool, out, next, from, inner, count, depth + 1);
     let end = put_byte(out, r.at, format::MARK_TERM);
-    stand(r.word, r.pool, end)
+    stand(r.word, r.pool, end, r.zeros)
 }
 
 // So many values in a row that stand at a depth: a record's fields, or a union's payload.
@@ -210,19 +220,21 @@ pub fn put_fields(
     count: u64,
     depth: usize,
 ) -> Put
-    requires { ⌜ Ready (now words) (now pool) (now out) (standing word from start) depth ⌝ }
-    ensures { λ r. ⌜ WroteFields (now (words .entry)) (now (pool .entry)) (standing word from start) count depth (now (out .entry)) r (now (out .exit)) ⌝ }
+    requires { ⌜ Ready (now words) (now pool) (now out) (standing word from start 0) depth ⌝ }
+    ensures { λ r. ⌜ WroteFields (now (words .entry)) (now (pool .entry)) (standing word from start 0) count depth (now (out .entry)) r (now (out .exit)) ⌝ }
 {
     let mut w = word;
     let mut p = from;
     let mut at = start;
+    let mut zeros: usize = 0;
     let mut left = count;
     while 0 < left {
         let r = put_value(words, pool, out, w, p, at, depth);
         w = r.word;
         p = r.pool;
         at = r.at;
+        zeros += r.zeros;
         left -= 1;
     }
-    stand(w, p, at)
+    stand(w, p, at, zeros)
 }

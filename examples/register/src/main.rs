@@ -1,6 +1,6 @@
 //! The register in a real ordered store: tanks, batches, recipe lines and doses as keys in LevelDB. It shows how a search that ends at strinc loses a batch
 //! and one by the bounds call does not, replaces fields in stored keys, finds the recipe lines without a supplier's lot, checks that the store's order is the order
-//! of the values, and counts the rows that a search for a prefix reads by its upper end.
+//! of the values, counts the rows that a search for a prefix reads by its upper end, and lists tank tags by the zeros escaped in their keys.
 
 mod leveldb;
 mod tables;
@@ -11,7 +11,7 @@ use std::error::Error;
 use std::path::Path;
 use std::process::ExitCode;
 use tables::{Table, Tables, batch, dose, field, fields, hex, line, lot, shown};
-use tuple::{FactId, PredicateId, Type, Value, compare, strinc};
+use tuple::{FactId, PredicateId, Type, Value, compare, encode_key_counted, strinc};
 
 type Answer<T> = Result<T, Box<dyn Error>>;
 
@@ -22,6 +22,9 @@ const TANKS: [(&[u8], &str, &[i64]); 5] = [
     (b"\x0A\xFF", "violet", &[70]),
     (b"\x0B", "black", &[90]),
 ];
+
+/// Tags on offer for the next tank.
+const OFFERED: [&[u8]; 3] = [b"\x0C\x00\x00", b"\x0C\x00\x01", b"\x0C\x01\x02"];
 
 /// The sequence of the first batch's reference: the register numbers past 2^32, and so do these batches.
 const FIRST: u64 = (1 << 32) - 4;
@@ -476,6 +479,47 @@ fn planned(store: &Store, tables: &Tables, checks: &mut Checks) -> Answer<()> {
     Ok(())
 }
 
+/// The key of a value, the zeros escaped in it, and whether these are the zero bytes of the value's pool.
+fn counted(table: &Table, value: &Value) -> Answer<(Vec<u8>, u64, bool)> {
+    let (key, zeros) = encode_key_counted(&table.ty, value)?;
+    let due = value.sheet().pool().iter().filter(|byte| **byte == 0).count();
+    Ok((key, zeros, zeros == due as u64))
+}
+
+/// The tags of the tanks and those on offer, fewest zeros first; then the bytes that zeros cost in all stored keys.
+fn by_zeros(store: &Store, tables: &Tables, checks: &mut Checks) -> Answer<()> {
+    let mut tags = Vec::new();
+    for (tag, ink) in TANKS.map(|(tag, ink, _)| (tag, ink)).into_iter().chain(OFFERED.map(|tag| (tag, "on offer"))) {
+        let (key, zeros, right) = counted(&tables.tanks, &Value::record([Value::from(tag)]))?;
+        tags.push((zeros, key, tag, ink, right));
+    }
+    tags.sort();
+    let mut rows = Vec::new();
+    for (zeros, key, tag, ink, right) in &tags {
+        let right = checks.yes(*right).to_owned();
+        rows.push(vec![hex(tag), (*ink).to_owned(), hex(key), key.len().to_string(), zeros.to_string(), right]);
+    }
+    table(
+        "9. Tank tags by the zeros escaped in their keys, fewest first",
+        &["tag", "tank", "key", "bytes", "zeros", "as in the tag"],
+        &rows,
+    );
+    let (_, _, next, ..) = tags.iter().find(|(_, _, tag, ..)| OFFERED.contains(tag)).ok_or("no tag is on offer")?;
+    println!("\n  to buy next: {}", hex(next));
+
+    let (mut bytes, mut escaped, mut right) = (0, 0, true);
+    for table in tables.all() {
+        for (stored, _) in store.scan(&table.whole())? {
+            let (key, zeros, same) = counted(table, &table.value(&stored)?)?;
+            right = right && same && key == stored[4..];
+            bytes += key.len();
+            escaped += zeros;
+        }
+    }
+    println!("  of the {bytes} bytes of all keys in the store, {escaped} are the FF of an escaped zero: {}", checks.yes(right));
+    Ok(())
+}
+
 fn run(folder: &Path) -> Answer<Checks> {
     let (tables, mut random, mut checks) = (Tables::new(), Random(7), Checks::default());
     let store = Store::create(folder)?;
@@ -490,6 +534,7 @@ fn run(folder: &Path) -> Answer<Checks> {
     order(&store, &tables, &mut random, &mut checks)?;
     every_tank(&store, &tables, &mut checks)?;
     planned(&store, &tables, &mut checks)?;
+    by_zeros(&store, &tables, &mut checks)?;
     Ok(checks)
 }
 

@@ -132,6 +132,18 @@ pub fn count(value: &Value) -> u64 {
     }
 }
 
+/// The zero bytes in all texts and bytes of a value.
+pub fn zeros(value: &Value) -> u64 {
+    let of = |bytes: &[u8]| bytes.iter().filter(|byte| **byte == 0).count() as u64;
+    match value {
+        Value::Str(text) => of(text.as_bytes()),
+        Value::Bytes(bytes) => of(bytes),
+        Value::Record(fields) => fields.iter().map(zeros).sum(),
+        Value::Union { value, .. } => zeros(value),
+        _ => 0,
+    }
+}
+
 /// A value within so many records of one field each, and its type.
 pub fn nested(depth: usize, ty: Type, value: Value) -> (Type, Value) {
     (0..depth).fold((ty, value), |(ty, value), _| (Type::record([ty]), Value::record([value])))

@@ -4,9 +4,10 @@ use native.Mathlib.Omega.{arith}
 use Rattle.format.specs.Answer.{refused, KeyTooLong}
 use Rattle.format.specs.Encode.{encodeKey}
 use Rattle.format.specs.Calls.{encodeKeyCall}
+use Rattle.format.specs.Zeros.{encodeKeyZeros}
 use Rattle.encode.specs.Encoded.{Sheets}
 use Rattle.encode.proofs.Keys.{sheets}
-use Rattle.encode.proofs.Outcomes.{said-ok, bad-type, bad-value, refuses, no-room, done, key-refused, key-long, key-short}
+use Rattle.encode.proofs.Outcomes.{said-ok, key-pool, bad-type, bad-value, refuses, no-room, done, key-refused, key-long, key-short}
 use borrow.Author.Needs.{needs}
 use Rattle.encode.proofs.encode_key.Statement.{statement}
 use Rattle.encode.proofs.encode_key.Tie as tie
@@ -15,7 +16,7 @@ admit-type-requires : tie.Need-admit-type-requires
 admit-type-requires c κs = search needs
 
 returns : tie.Need-returns
-unfolding encodeKeyCall
+unfolding encodeKeyCall encodeKeyZeros
 returns c =
     let a = c .before .before .before .before .before .before .args in
     bad-type encodeKey (a .ty .now) (a .words .now) (a .pool .now) (a .out .now) _ (c .before .admit-type .ensures) (c .if1 .taken)
@@ -24,7 +25,7 @@ admit-value-requires : tie.Need-admit-value-requires
 admit-value-requires c κs = search needs
 
 returns-2 : tie.Need-returns-2
-unfolding encodeKeyCall
+unfolding encodeKeyCall encodeKeyZeros
 returns-2 c =
     let c₁ = c .before .before .before in
     let c₂ = c₁ .before .before .before .before .before in
@@ -44,7 +45,7 @@ enum-known-len : tie.Need-enum-known-len
 enum-known-len c = search needs
 
 returns-3 : tie.Need-returns-3
-unfolding encodeKeyCall
+unfolding encodeKeyCall encodeKeyZeros
 returns-3 c =
     let c₁ = c .before .before .before .before in
     let c₂ = c₁ .before .before .before .before .before .before .before .before .before in
@@ -54,7 +55,7 @@ returns-3 c =
     refuses encodeKey s _ _ _ (key-long s (b .1) (omega (arith, b .2)) ∙ ap (refused KeyTooLong) (sym (b .2)))
 
 returns-4 : tie.Need-returns-4
-unfolding encodeKeyCall
+unfolding encodeKeyCall encodeKeyZeros
 returns-4 c =
     let c₁ = c .before .before .before in
     let c₂ = c₁ .before .before in
@@ -76,7 +77,7 @@ put-key-requires c κs =
     record { sheets = s; bytes = b .0; is = b .1 }
 
 returns-5 : tie.Need-returns-5
-unfolding encodeKeyCall
+unfolding encodeKeyCall encodeKeyZeros
 returns-5 c =
     let c₁ = c .before .before .before in
     let c₂ = c₁ .before .before .before .before .before .before .before .before .before in
@@ -88,7 +89,7 @@ same-length : tie.Need-same-length
 same-length c = search needs
 
 returns-6 : tie.Need-returns-6
-unfolding encodeKeyCall
+unfolding encodeKeyCall encodeKeyZeros
 returns-6 c =
     let c₁ = c .before .before .before .before in
     let c₂ = c₁ .before .before .before in
@@ -98,7 +99,7 @@ returns-6 c =
     let s : Sheets (a .ty .now) (a .words .now) (a .pool .now) = search sheets in
     let b = said-ok _ (rw (c₂ .len .given .1) at (c₃ .fit-key .ensures)) in
     let short = key-short s (b .1) (omega (arith, b .2)) in
-    done encodeKey s _ short (b .2) (c₁ .if4 .left) (c .before .before .put-key .ensures .wrote (b .0) (b .1))
+    done encodeKey s _ short (b .2) key-pool (c₁ .if4 .left) (c .before .before .put-key .ensures .wrote (b .0) (b .1))
 
 pub encode-key-spec : {M : Type 1} → statement M
 encode-key-spec =

@@ -2,10 +2,11 @@
 use native.Mathlib.Omega.{arith}
 use Rattle.format.specs.Encode.{encodeTyped}
 use Rattle.format.specs.Calls.{encodeTypedCall}
+use Rattle.format.specs.Zeros.{encodeTypedZeros}
 use Rattle.fit.proofs.Steps.{value-short}
 use Rattle.encode.specs.Encoded.{Sheets}
 use Rattle.encode.proofs.Keys.{sheets, stands, whole-measured, whole-written}
-use Rattle.encode.proofs.Outcomes.{said-no, said-ok, bad-type, bad-value, refuses, no-room, done}
+use Rattle.encode.proofs.Outcomes.{said-no, said-ok, typed-pool, bad-type, bad-value, refuses, no-room, done}
 use borrow.Author.Needs.{needs}
 use Rattle.encode.proofs.encode_typed.Statement.{statement}
 use Rattle.encode.proofs.encode_typed.Tie as tie
@@ -14,7 +15,7 @@ admit-type-requires : tie.Need-admit-type-requires
 admit-type-requires c κs = search needs
 
 returns : tie.Need-returns
-unfolding encodeTypedCall
+unfolding encodeTypedCall encodeTypedZeros
 returns c =
     let a = c .before .before .before .before .before .before .args in
     bad-type encodeTyped (a .ty .now) (a .words .now) (a .pool .now) (a .out .now) _ (c .before .admit-type .ensures) (c .if1 .taken)
@@ -23,7 +24,7 @@ admit-value-requires : tie.Need-admit-value-requires
 admit-value-requires c κs = search needs
 
 returns-2 : tie.Need-returns-2
-unfolding encodeTypedCall
+unfolding encodeTypedCall encodeTypedZeros
 returns-2 c =
     let c₁ = c .before .before .before in
     let c₂ = c₁ .before .before .before .before .before in
@@ -43,7 +44,7 @@ enum-known-n : tie.Need-enum-known-n
 enum-known-n c = search needs
 
 returns-3 : tie.Need-returns-3
-unfolding encodeTypedCall
+unfolding encodeTypedCall encodeTypedZeros
 returns-3 c =
     let c₁ = c .before .before .before .before in
     let c₂ = c₁ .before .before .before .before .before .before .before .before .before in
@@ -57,7 +58,7 @@ put-value-requires : tie.Need-put-value-requires
 put-value-requires c κs = search needs
 
 returns-4 : tie.Need-returns-4
-unfolding encodeTypedCall
+unfolding encodeTypedCall encodeTypedZeros
 returns-4 c =
     let c₁ = c .before .before .before in
     let c₂ = c₁ .before .before .before .before .before .before .before .before .before in
@@ -69,7 +70,7 @@ same-length : tie.Need-same-length
 same-length c = search needs
 
 returns-5 : tie.Need-returns-5
-unfolding encodeTypedCall
+unfolding encodeTypedCall encodeTypedZeros
 returns-5 c =
     let c₁ = c .before .before .before .before in
     let c₂ = c₁ .before .before in
@@ -78,7 +79,7 @@ returns-5 c =
     let a = c₄ .args in
     let s : Sheets (a .ty .now) (a .words .now) (a .pool .now) = search sheets in
     let b = said-ok _ (rw (c₂ .n .given .1) at (whole-measured s (c₃ .fit-value .ensures))) in
-    done encodeTyped s _ (b .1) (b .2) (c₁ .if3 .left) (whole-written s (c .before .before .put-value .ensures) (b .0) (b .1))
+    done encodeTyped s _ (b .1) (b .2) typed-pool (c₁ .if3 .left) (whole-written s (c .before .before .put-value .ensures) (b .0) (b .1))
 
 pub encode-typed-spec : {M : Type 1} → statement M
 encode-typed-spec =

@@ -15,7 +15,11 @@ same-length : tie.Need-same-length
 same-length c = search needs
 
 returns : tie.Need-returns
-returns c = search put-whole
+returns c =
+    let w = c .before .before in
+    let i = w .before .before in
+    let b = i .before in
+    put-whole (b .before .before .before .before .before .pre .sheets) (b .top-bare .ensures) (i .if1 .taken) (w .put-value .ensures)
 
 shared-slice-read-count : tie.Need-shared-slice-read-count
 shared-slice-read-count c =
@@ -33,7 +37,11 @@ same-length-2 : tie.Need-same-length-2
 same-length-2 c = search needs
 
 returns-2 : tie.Need-returns-2
-returns-2 c = search put-bare
+returns-2 c =
+    let w = c .before .before in
+    let i = w .before .before .before in
+    let b = i .before in
+    put-bare (b .before .before .before .before .before .pre .sheets) (b .top-bare .ensures) (i .if1 .left) (w .put-fields .ensures)
 
 pub put-key-spec : {M : Type 1} → statement M
 put-key-spec =

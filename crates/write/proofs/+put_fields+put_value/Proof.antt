@@ -52,11 +52,11 @@ abbrev put-fields-claims : ℕ → put-fields-lts.Claims
 put-fields-claims t = (put-value-below t, put-value.Post, stand-reads.Asked, stand-reads.Learnt)
 
 abbrev put-fields-Inv-loop : put-fields-lts.InvT-loop
-put-fields-Inv-loop words pool out₀ word from start count depth w₀ p₀ at₀ left₀ out w p at left =
-    laws.Walking words pool (standing word from start) count depth out₀ (standing w p at) left out
+put-fields-Inv-loop words pool out₀ word from start count depth w₀ p₀ at₀ zeros₀ left₀ out w p at zeros left =
+    laws.Walking words pool (standing word from start 0) count depth out₀ (standing w p at zeros) left out
 
 abbrev put-fields-μ-loop : put-fields-lts.MeasureT-loop
-put-fields-μ-loop words pool out₀ word from start count depth w₀ p₀ at₀ left₀ out w p at left = left
+put-fields-μ-loop words pool out₀ word from start count depth w₀ p₀ at₀ zeros₀ left₀ out w p at zeros left = left
 
 abbrev put-fields-need : (put-fields-lts.Claims → In 3 put-fields-kinds.ps → Out 3 put-fields-kinds.ps put-fields-kinds.r → put-fields-lts.InvT-loop → put-fields-lts.MeasureT-loop → Type 0) → Type 0
 put-fields-need N = (t : ℕ) → N (put-fields-claims t) (put-fields-at t) put-fields.Post put-fields-Inv-loop put-fields-μ-loop
@@ -70,6 +70,11 @@ put-fields-put-value-requires t c κs =
     let s = l .before .before .before .before in
     (omega (arith, s .pre .0, l .loop .inv .onward .on), laws.walk-ready (l .loop .inv) (s .pre .1 .deep))
 
+put-fields-add-zeros : put-fields-need put-fields-lts.Need-add-zeros
+put-fields-add-zeros t c =
+    let v = c .before .before .before in
+    omega (arith, laws.walk-room (v .before .before .before .loop .inv) (v .put-value .ensures))
+
 put-fields-sub-left : put-fields-need put-fields-lts.Need-sub-left
 put-fields-sub-left t c = search needs
 
@@ -78,7 +83,7 @@ put-fields-loop-less t c = search needs
 
 put-fields-loop-again : put-fields-need put-fields-lts.Need-loop-again
 put-fields-loop-again t c =
-    let v = c .before .before in
+    let v = c .before .before .before in
     let l = v .before .before in
     laws.walk-value (l .before .loop .inv) (l .loop-test .taken) (v .put-value .ensures)
 
@@ -211,7 +216,7 @@ put-value-stand-requires-5 : put-value-need put-value-lts.Need-stand-requires-5
 put-value-stand-requires-5 t c κs = search needs
 
 put-value-same-length-2 : put-value-need put-value-lts.Need-same-length-2
-put-value-same-length-2 t c = c .before .before .before .put-scalar .ensures .kept
+put-value-same-length-2 t c = c .before .before .before .put-scalar .ensures .stored .kept
 
 put-value-returns-5 : put-value-need put-value-lts.Need-returns-5
 put-value-returns-5 t c =
@@ -221,7 +226,7 @@ put-value-returns-5 t c =
     let l = j .before .before in
     let n = l .before in
     let s = n .before .before .before .before .before .before in
-    rw (c .stand5 .ensures) (laws.wrote-plain (s .pre .1) (l .if3 .left) refl (n .if2 .left) refl (j .if4 .taken) (i .before .run-of .ensures) (i .if5 .left) (p .put-scalar .ensures))
+    rw (c .stand5 .ensures) (laws.wrote-plain (s .pre .1) (l .if3 .left) refl (n .if2 .left) refl (j .if4 .taken) (i .before .run-of .ensures) (i .if5 .left) (p .put-scalar .ensures) (omega arith))
 
 put-value-open-group-requires : put-value-need put-value-lts.Need-open-group-requires
 put-value-open-group-requires t c κs = search needs
@@ -253,7 +258,7 @@ put-value-returns-6 t c =
     let l = i .before .before in
     let n = l .before in
     let s = n .before .before .before .before .before .before in
-    rw (c .stand6 .ensures) (laws.wrote-group (s .pre .1) (l .if3 .left) refl (n .if2 .left) refl (i .if4 .left) (o .open-group .ensures) (rw (r .before .before .count-of .ensures) at (r .put-fields .ensures)) (b .put-byte .ensures))
+    rw (c .stand6 .ensures) (laws.wrote-group (s .pre .1) (l .if3 .left) refl (n .if2 .left) refl (i .if4 .left) (o .open-group .ensures) (rw (r .before .before .count-of .ensures) at (r .put-fields .ensures)) (b .put-byte .ensures) (omega arith))
 
 pub +put-fields+put-value-spec : {M : Type 1} → statement M
 +put-fields+put-value-spec = close μ-put-fields μ-put-value (λ t. put-fields-lts.spec (put-fields-claims t)
@@ -263,6 +268,7 @@ pub +put-fields+put-value-spec : {M : Type 1} → statement M
     put-fields-μ-loop
     (put-fields-loop-holds t)
     (put-fields-put-value-requires t)
+    (put-fields-add-zeros t)
     (put-fields-sub-left t)
     (put-fields-loop-less t)
     (put-fields-loop-again t)

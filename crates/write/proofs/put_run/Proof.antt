@@ -2,7 +2,7 @@
 use mathlib.Core.Path.{sym, _∙_}
 use native.Mathlib.Omega.{arith}
 use borrow.Author.Tests.{leb-true, leb-false}
-use Rattle.write.proofs.Stores.{no-room, put-stored, stored-then}
+use Rattle.write.proofs.Stores.{run-counted, run-short}
 use borrow.Author.Needs.{needs}
 use Rattle.write.proofs.put_run.Statement.{statement}
 use Rattle.write.proofs.put_run.Tie as tie
@@ -31,8 +31,7 @@ returns c =
     let w = c .before .before in
     let f = w .before .before .before in
     let b = f .before .before .before .put-byte .ensures in
-    let room = leb-true _ _ (sym (f .run-fits .ensures) ∙ w .before .before .if1 .taken) in
-    stored-then b (put-stored (omega (arith, b .inside, b .kept)) room (w .write-escaped .ensures .0) (w .write-escaped .ensures .1))
+    run-counted _ b (leb-true _ _ (sym (f .run-fits .ensures) ∙ w .before .before .if1 .taken)) (w .write-escaped .ensures)
 
 same-length-2 : tie.Need-same-length-2
 same-length-2 c = search needs
@@ -40,9 +39,7 @@ same-length-2 c = search needs
 returns-2 : tie.Need-returns-2
 returns-2 c =
     let f = c .before in
-    let b = f .before .before .before .put-byte .ensures in
-    let fit = sym (f .run-fits .ensures) ∙ c .if1 .left in
-    stored-then b (no-room (omega (arith, b .inside, b .kept)) (omega (arith, leb-false)))
+    run-short _ (f .before .before .before .put-byte .ensures) (leb-false _ _ (sym (f .run-fits .ensures) ∙ c .if1 .left))
 
 pub put-run-spec : {M : Type 1} → statement M
 put-run-spec =

@@ -1,5 +1,7 @@
--- A value that is no group, by its kind: what each kind is written as is what PlainLaws says of it.
-use Rattle.format.proofs.PlainLaws.{bytes-int, bytes-ref, bytes-str, bytes-raw}
+-- A value that is no group, by its kind: what each kind is written as is what PlainLaws says of it; only a run has a payload, and so zeros.
+use native.Mathlib.Omega.{arith}
+use Rattle.format.proofs.PlainLaws.{pool-int, pool-ref, bytes-int, bytes-ref, bytes-str, bytes-raw}
+use Rattle.write.proofs.Stores.{none-counted}
 use borrow.Author.Needs.{needs}
 use Rattle.write.proofs.put_scalar.Statement.{statement}
 use Rattle.write.proofs.put_scalar.Tie as tie
@@ -14,8 +16,10 @@ returns : tie.Need-returns
 returns c =
     let b = c .before .before in
     let i = b .before .before in
-    let a = i .before .before .before .args in
-    rw (← bytes-int (a .kind) (a .x) (a .payload .now) (i .if1 .taken)) (b .put-int .ensures)
+    let s = i .before .before .before in
+    let a = s .args in
+    let none = none-counted (a .payload .now) (omega (arith, s .pre .1, pool-int (a .kind) (a .x) (i .if1 .taken))) (b .put-int .ensures) in
+    rw (← bytes-int (a .kind) (a .x) (a .payload .now) (i .if1 .taken)) none
 
 put-ref-requires : tie.Need-put-ref-requires
 put-ref-requires c κs = search needs
@@ -27,8 +31,10 @@ returns-2 : tie.Need-returns-2
 returns-2 c =
     let b = c .before .before in
     let i = b .before .before in
-    let a = i .before .before .before .before .args in
-    rw (← bytes-ref (a .kind) (a .x) (a .payload .now) (i .before .if1 .left) (i .if2 .taken)) (b .put-ref .ensures)
+    let s = i .before .before .before .before in
+    let a = s .args in
+    let none = none-counted (a .payload .now) (omega (arith, s .pre .1, pool-ref (a .kind) (a .x) (i .before .if1 .left) (i .if2 .taken))) (b .put-ref .ensures) in
+    rw (← bytes-ref (a .kind) (a .x) (a .payload .now) (i .before .if1 .left) (i .if2 .taken)) none
 
 put-run-requires : tie.Need-put-run-requires
 put-run-requires c κs = search needs

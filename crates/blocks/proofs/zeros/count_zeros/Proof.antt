@@ -4,8 +4,9 @@ use mathlib.Core.Path.{_≡_}
 use Prim.Native.Nat.{_+_, _-_, _≤_}
 use native.Mathlib.Omega.{arith}
 use lib.ListN.{length, drop}
-use Rattle.blocks.specs.Zeros.{zeros}
-use Rattle.blocks.proofs.Counts.{zeros-chunk, zeros-rest, zeros-few, zeros-le}
+use Rattle.format.specs.Zeros.{zeros}
+use Rattle.format.proofs.ZeroLaws.{zeros-le}
+use Rattle.blocks.proofs.Counts.{zeros-chunk, zeros-rest, zeros-few}
 use Rattle.blocks.proofs.zeros.count_zeros.Statement.{statement}
 use Rattle.blocks.proofs.zeros.count_zeros.Tie as tie
 

@@ -4,7 +4,7 @@ use mathlib.Core.Logic.{⊎-elim}
 use Prim.Native.Nat.{_+_, _-_, _≤_}
 use native.Mathlib.Omega.{arith}
 use lib.Seq.{slice}
-use Rattle.blocks.specs.Zeros.{zeros}
+use Rattle.format.specs.Zeros.{zeros}
 use Rattle.blocks.proofs.Counts.{here-zero, here-byte, here-none, zeros-few}
 use Rattle.blocks.proofs.zeros.few_zeros.Statement.{statement}
 use Rattle.blocks.proofs.zeros.few_zeros.Tie as tie

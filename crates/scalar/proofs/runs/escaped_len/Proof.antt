@@ -1,7 +1,6 @@
 -- The payload, one byte more for each zero, and the end.
 use native.Mathlib.Omega.{arith}
-use Rattle.blocks.proofs.Counts.{zeros-le}
-use Rattle.scalar.proofs.Escapes.{escaped-long}
+use Rattle.format.proofs.ZeroLaws.{zeros-le, escaped-long}
 use borrow.Author.Needs.{needs}
 use Rattle.scalar.proofs.runs.escaped_len.Statement.{statement}
 use Rattle.scalar.proofs.runs.escaped_len.Tie as tie
