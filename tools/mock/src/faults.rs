@@ -81,6 +81,13 @@ faults! {
     BlankDeep "blank-deep",
     BareInUnion "bare-in-union",
     BlankBounds "blank-bounds",
+    ZerosTerminator "zeros-terminator",
+    ZerosLast "zeros-last",
+    ZerosRecords "zeros-records",
+    ZerosRefused "zeros-refused",
+    ZerosOfKey "zeros-of-key",
+    ZerosStrings "zeros-strings",
+    ZerosBlanks "zeros-blanks",
 }
 
 pub fn has(fault: Fault) -> bool {

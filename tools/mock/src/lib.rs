@@ -1,5 +1,5 @@
 //! The library's boundary over the original. What the port adds is done another way than in the oracle: bounds and replacement by
-//! skip and by moving bytes.
+//! skip and by moving bytes, the zeros escaped by a walk over the value.
 
 mod cursors;
 mod faults;
@@ -23,6 +23,14 @@ pub struct Length {
     refusal: u32,
     detail: u64,
     length: u64,
+}
+
+#[repr(C)]
+pub struct Encoded {
+    refusal: u32,
+    detail: u64,
+    length: u64,
+    zeros: u64,
 }
 
 #[repr(C)]
@@ -167,7 +175,39 @@ fn with_blanks(words: &[u32], ty: &Type, value: &Value, key: bool, encoded: Resu
     }
 }
 
-fn encode(words: &[u32], values: &[u64], pool: &[u8], out: &mut [u8], key: bool) -> Result<usize, Refusal> {
+fn zeros_of(bytes: &[u8]) -> u64 {
+    bytes.iter().filter(|byte| **byte == 0).count() as u64
+}
+
+/// The zeros that each run of a value escapes. `inside`: in a group.
+fn runs_of(value: &Value, inside: bool, runs: &mut Vec<u64>) {
+    let end = u64::from(has(Fault::ZerosTerminator));
+    match value {
+        Value::Str(_) if has(Fault::ZerosStrings) => {}
+        Value::Str(text) => runs.push(zeros_of(text.as_bytes()) + end),
+        Value::Bytes(payload) => runs.push(zeros_of(payload) + end),
+        Value::Null if has(Fault::ZerosBlanks) && inside => runs.push(1),
+        Value::Record(fields) => fields.iter().for_each(|(_, field)| runs_of(field, true, runs)),
+        Value::Union { value, .. } => runs_of(value, true, runs),
+        _ => {}
+    }
+}
+
+fn zeros_escaped(value: &Value, bare: bool, bytes: &[u8]) -> u64 {
+    let mut runs = Vec::new();
+    match value {
+        Value::Record(fields) if bare => fields.iter().for_each(|(_, field)| runs_of(field, false, &mut runs)),
+        value => runs_of(value, false, &mut runs),
+    }
+    match value {
+        Value::Record(_) if has(Fault::ZerosRecords) => 0,
+        _ if has(Fault::ZerosOfKey) => zeros_of(bytes),
+        _ if has(Fault::ZerosLast) => runs.last().copied().unwrap_or(0),
+        _ => runs.iter().sum(),
+    }
+}
+
+fn encode(words: &[u32], values: &[u64], pool: &[u8], out: &mut [u8], key: bool) -> Result<(usize, u64), Refusal> {
     let ty = the_type(words)?;
     if has(Fault::RoomFirst) && out.is_empty() {
         return Err((NO_ROOM, 1));
@@ -190,19 +230,31 @@ fn encode(words: &[u32], values: &[u64], pool: &[u8], out: &mut [u8], key: bool)
     if has(Fault::KeyLimit) && matches!(encoded, Err((KEY_TOO_LONG, 65_532))) {
         encoded = ty.encode_typed(&value);
     }
-    write(&encoded?, out)
+    let bytes = encoded?;
+    let bare = key && ty.fields().is_some();
+    Ok((write(&bytes, out)?, zeros_escaped(&value, bare, &bytes)))
+}
+
+fn encode_call(words: &[u32], values: &[u64], pool: &[u8], out: &mut [u8], key: bool) -> Encoded {
+    match encode(words, values, pool, out, key) {
+        Ok((length, zeros)) => Encoded { refusal: 0, detail: 0, length: length as u64, zeros },
+        Err((refusal, detail)) => {
+            let shown = has(Fault::ZerosRefused) && matches!(refusal, KEY_TOO_LONG | TYPE_MISMATCH | NO_ROOM);
+            Encoded { refusal, detail, length: 0, zeros: if shown { zeros_of(pool) } else { 0 } }
+        }
+    }
 }
 
 #[unsafe(no_mangle)]
 #[rustfmt::skip]
-pub unsafe extern "C" fn tuple_encode_typed(ty: *const u32, ty_len: usize, words: *const u64, words_len: usize, pool: *const u8, pool_len: usize, out: *mut u8, out_len: usize) -> Length {
-    unsafe { encode(given(ty, ty_len), given(words, words_len), given(pool, pool_len), lent(out, out_len), false) }.into()
+pub unsafe extern "C" fn tuple_encode_typed(ty: *const u32, ty_len: usize, words: *const u64, words_len: usize, pool: *const u8, pool_len: usize, out: *mut u8, out_len: usize) -> Encoded {
+    unsafe { encode_call(given(ty, ty_len), given(words, words_len), given(pool, pool_len), lent(out, out_len), false) }
 }
 
 #[unsafe(no_mangle)]
 #[rustfmt::skip]
-pub unsafe extern "C" fn tuple_encode_key(ty: *const u32, ty_len: usize, words: *const u64, words_len: usize, pool: *const u8, pool_len: usize, out: *mut u8, out_len: usize) -> Length {
-    unsafe { encode(given(ty, ty_len), given(words, words_len), given(pool, pool_len), lent(out, out_len), true) }.into()
+pub unsafe extern "C" fn tuple_encode_key(ty: *const u32, ty_len: usize, words: *const u64, words_len: usize, pool: *const u8, pool_len: usize, out: *mut u8, out_len: usize) -> Encoded {
+    unsafe { encode_call(given(ty, ty_len), given(words, words_len), given(pool, pool_len), lent(out, out_len), true) }
 }
 
 // ---- decoding

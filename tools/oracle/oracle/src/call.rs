@@ -171,8 +171,8 @@ impl Kind {
             };
         }
         match self {
-            EncodeTyped => shape!("encode_typed", "encode", [Type, Words, Pool, Room(0)], ["length"], [Bytes]),
-            EncodeKey => shape!("encode_key", "encode", [Type, Words, Pool, Room(0)], ["length"], [Bytes]),
+            EncodeTyped => shape!("encode_typed", "encode", [Type, Words, Pool, Room(0)], ["length", "zeros"], [Bytes]),
+            EncodeKey => shape!("encode_key", "encode", [Type, Words, Pool, Room(0)], ["length", "zeros"], [Bytes]),
             DecodeTyped => shape!("decode_typed", "decode", [Type, Bytes, Room(0), Room(1)], ["begun", "words", "pool"], [Words, Pool]),
             DecodeKey => shape!("decode_key", "decode", [Type, Bytes, Room(0), Room(1)], ["begun", "words", "pool"], [Words, Pool]),
             CheckKey => shape!("check_key", "decode", [Type, Bytes], ["begun"], []),

@@ -202,7 +202,10 @@ impl Oracle {
     fn encode(&mut self, call: &Call, encode: fn(&Type, &Value) -> Result<Vec<u8>, Refusal>) -> Result<Answer, Refusal> {
         let ty = self.ty(&call.ty)?;
         let value = admit_value(&call.words, &call.pool).ok_or((BAD_VALUE, 0))?;
-        self.writes(encode(&ty, &value))
+        self.outcome.bytes = encode(&ty, &value)?;
+        // an admitted sheet's pool is the payloads of the value, of which every zero is escaped
+        let zeros = call.pool.iter().filter(|byte| **byte == 0).count();
+        Ok(answered(&[self.outcome.bytes.len() as u64, zeros as u64]))
     }
 
     fn decode(&mut self, call: &Call, decode: fn(&Type, &LocalInterner, &[u8]) -> (Result<Value, Refusal>, u64), keep: bool) -> Answer {

@@ -9,6 +9,16 @@ pub struct Length {
     pub length: u64,
 }
 
+/// bytes written, and the zeros escaped in them
+#[repr(C)]
+#[derive(Clone, Copy)]
+pub struct Encoded {
+    pub refusal: u32,
+    pub detail: u64,
+    pub length: u64,
+    pub zeros: u64,
+}
+
 #[repr(C)]
 #[derive(Clone, Copy)]
 pub struct Sheet {
@@ -95,6 +105,7 @@ pub struct Char {
 // include/tuple.h asserts the same sizes
 const _: () = assert!(
     size_of::<Length>() == 24
+        && size_of::<Encoded>() == 32
         && size_of::<Sheet>() == 40
         && size_of::<Ends>() == 32
         && size_of::<Order>() == 24
@@ -109,8 +120,8 @@ const _: () = assert!(size_of::<Char>() == 40);
 #[cfg(feature = "encode")]
 #[rustfmt::skip]
 unsafe extern "C" {
-    pub fn tuple_encode_typed(ty: *const u32, ty_len: usize, words: *const u64, words_len: usize, pool: *const u8, pool_len: usize, out: *mut u8, out_len: usize) -> Length;
-    pub fn tuple_encode_key(ty: *const u32, ty_len: usize, words: *const u64, words_len: usize, pool: *const u8, pool_len: usize, out: *mut u8, out_len: usize) -> Length;
+    pub fn tuple_encode_typed(ty: *const u32, ty_len: usize, words: *const u64, words_len: usize, pool: *const u8, pool_len: usize, out: *mut u8, out_len: usize) -> Encoded;
+    pub fn tuple_encode_key(ty: *const u32, ty_len: usize, words: *const u64, words_len: usize, pool: *const u8, pool_len: usize, out: *mut u8, out_len: usize) -> Encoded;
 }
 
 #[cfg(feature = "decode")]

@@ -51,6 +51,11 @@ fn of_length(length: Length) -> Answer {
     answer(length.refusal, length.detail, &[length.length])
 }
 
+#[cfg(feature = "encode")]
+fn of_encoded(encoded: Encoded) -> Answer {
+    answer(encoded.refusal, encoded.detail, &[encoded.length, encoded.zeros])
+}
+
 #[cfg(feature = "decode")]
 fn of_sheet(sheet: Sheet) -> Answer {
     answer(sheet.refusal, sheet.detail, &[sheet.begun, sheet.words, sheet.pool])
@@ -108,9 +113,9 @@ impl Ours {
         unsafe {
             match call.kind {
                 #[cfg(feature = "encode")]
-                EncodeTyped => of_length(tuple_encode_typed(ty, ty_len, words, words_len, pool, pool_len, self.bytes.lend(room), room)),
+                EncodeTyped => of_encoded(tuple_encode_typed(ty, ty_len, words, words_len, pool, pool_len, self.bytes.lend(room), room)),
                 #[cfg(feature = "encode")]
-                EncodeKey => of_length(tuple_encode_key(ty, ty_len, words, words_len, pool, pool_len, self.bytes.lend(room), room)),
+                EncodeKey => of_encoded(tuple_encode_key(ty, ty_len, words, words_len, pool, pool_len, self.bytes.lend(room), room)),
                 #[cfg(feature = "decode")]
                 DecodeTyped => {
                     let (out, out_pool) = (self.words.lend(room), self.pool.lend(other_room));
