@@ -16,7 +16,7 @@ use Rattle.format.specs.ValueSheet as values
 use Rattle.format.specs.ValueSheet.{valueOf}
 use Rattle.format.specs.Encode.{valBytes, valsBytes, fits, fitsAll, ofKind, encode, encodeTyped, keyBytes, fine}
 use Rattle.format.specs.Fields.{put}
-use Rattle.format.specs.Zeros.{valZeros, shownZeros}
+use Rattle.format.specs.Zeros.{valZeros}
 use Rattle.format.proofs.TypeLaws as type-laws
 use Rattle.format.proofs.ValueLaws as value-laws
 use Rattle.format.proofs.TypePlaces as type-places

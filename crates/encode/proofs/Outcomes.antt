@@ -14,7 +14,6 @@ use Rattle.format.specs.TypeSheet.{typeOf, isSome}
 use Rattle.format.specs.ValueSheet.{valueOf}
 use Rattle.format.specs.Encode.{keyBytes, encodeTyped, encodeKey, maxKeyBytes}
 use Rattle.format.specs.Calls.{Called, withType, withValue, written, encodeTypedCall, encodeKeyCall, over}
-use Rattle.format.specs.Fields.{put}
 use Rattle.format.specs.Zeros.{zeros, shownZeros, encodeTypedZeros, encodeKeyZeros}
 use Rattle.format.proofs.TypeLaws.{some-of}
 use Rattle.format.proofs.FitLaws.{clash}
@@ -89,8 +88,8 @@ module _ (F : Ty → Val → Answer (List ℕ)) where
       no-room h g = turned-down (rw (s .is-type, s .is-value, is, lt-leb (length bs) (length out) (omega arith), lt-ltb (length bs) (2 ^ 64) (omega arith), long))
 
       pub done : OfPool F → n ≤ length out → {z : ℕ} {l′ : List ℕ} → (length bs ≤ length out → Wrote words pool out bs z l′) → Call F ty words pool out (Done n z) l′
-      done law h {z} put =
-          let w = put (omega arith) in
+      done law h {z} wrote =
+          let w = wrote (omega arith) in
           let c : called F ty words pool out ≡ record { answer = ok (length bs); buffer = over bs out } = rw (s .is-type, s .is-value, is, le-leb (length bs) (length out) (omega arith)) in
           let a = ap (λ (k : Called ℕ). k .answer) c in
           let shows : z ≡ shown F ty words pool out = w .zeros ∙ ap (λ (x : Answer ℕ). shownZeros x (valueOf words pool)) (sym a) in

@@ -7,7 +7,7 @@ use mathlib.Core.Option.{Option, some, none}
 use Prim.Native.Nat.{ℕ, _+_, _≤_}
 use native.Mathlib.Omega.{arith}
 use lib.ListN.{length}
-use Rattle.format.specs.Answer.{Answer, ok, refused}
+use Rattle.format.specs.Answer.{Answer, ok}
 use Rattle.format.specs.Tree.{Ty, Val, Vals}
 use Rattle.format.specs.Sheet.{valPool, valsPool}
 use Rattle.format.specs.TypeSheet.{typeOf}

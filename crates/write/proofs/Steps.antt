@@ -207,7 +207,7 @@ module _ {words pool : List ℕ} {s₀ : Put} {n₀ depth : ℕ} {l : List ℕ} 
     pub walk-ready : depth ≤ s₀ .word + 256 → Ready words pool l′ (standing (s .word) (s .pool) (s .at) 0) depth
     walk-ready h = record { word-in = i .onward .word-in; pool-in = i .onward .pool-in; at-in = omega (arith, i .onward .at-in, i .onward .kept); deep = omega (arith, i .onward .on) }
 
-    -- as long as there are bytes in the pool
+    -- the zeros so far and the next value's are no more than the bytes of the pool
     pub walk-room : {r : Put} {m : List ℕ} → WroteValue words pool (standing (s .word) (s .pool) (s .at) 0) depth l′ r m → s₀ .pool + (s .zeros + r .zeros) ≤ length pool + s₀ .zeros
     walk-room v = omega (arith, i .onward .few, v .onward .few, v .onward .pool-in)
 
