@@ -300,7 +300,7 @@ module _ {ty words pool : List ℕ} {t w p : ℕ} (same : getD words w 0 ≡ get
 
 -- ---- no sum is too large
 
-brief-short : (words pool : List ℕ) (w p : ℕ) (r : Fitted) → length words ≤ maxValueWords → length pool ≤ maxValueWords → Brief words pool w p r → lenOf r < 2 ^ 32
+pub brief-short : (words pool : List ℕ) (w p : ℕ) (r : Fitted) → length words ≤ maxValueWords → length pool ≤ maxValueWords → Brief words pool w p r → lenOf r < 2 ^ 32
 brief-short words pool w p (Fits at word end len) few small b = omega (arith, b .1, b .3, b .4)
 brief-short words pool w p (Refused n d) few small b = omega arith
 

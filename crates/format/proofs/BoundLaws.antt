@@ -31,7 +31,7 @@ split-sound (suc k) Vals.NoVal w = (tt, tt)
 split-sound (suc k) (Vals.AddVal v vs) w = let h = split-sound k vs (w .1) in ((w .0, h .0), h .1)
 
 -- the fields left are below FF
-rest-low : (vs : Vals) → AllSound vs → cmpBytes (0xFF ∷ []) (valsBytes 0 vs) ≡ Ordering·gt
+pub rest-low : (vs : Vals) → AllSound vs → cmpBytes (0xFF ∷ []) (valsBytes 0 vs) ≡ Ordering·gt
 unfolding cmpBytes valsBytes
 rest-low Vals.NoVal w = refl
 rest-low (Vals.AddVal v vs) w = let m = marked 0 v (w .0) in rw (m .bytes, more {m = 0xFF} {n = m .mark} (m .small))

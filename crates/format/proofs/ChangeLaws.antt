@@ -9,9 +9,10 @@ use Rattle.format.specs.Sheet.{fieldCount, valCount}
 use Rattle.format.specs.Encode.{valBytes, valsBytes, encode, encodeKey, keyBytes, fits, fitsAll, maxKeyBytes, fine}
 use Rattle.format.specs.Bounds.{firstBytes}
 use Rattle.format.specs.Replace.{fieldAt, setField, spliced}
+use Rattle.format.specs.Spans.{fieldType}
 use Rattle.format.proofs.Tests.{leb-yes, leb-no, eqb-yes}
 use Rattle.format.proofs.EncodeLaws.{fits-count, accepted, key-made}
-use Rattle.format.proofs.ReplaceLaws.{fieldType, refit, set-count}
+use Rattle.format.proofs.ReplaceLaws.{refit, set-count}
 
 module _ (ts : Tys) (vs : Vals) (k : ℕ) (u : Val) (l : k < valCount vs) (f : fitsAll ts 0 vs ≡ fine) where
   same-count : fieldCount ts ≡ valCount (setField k u vs)

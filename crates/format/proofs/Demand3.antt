@@ -54,12 +54,12 @@ writes : (out x : List ℕ) → length x ≤ length out → written out (ok x) �
 writes out x h = rw (leb-yes (length x) (length out) h)
 
 -- encode_key of admitted sheets
-key-call : (ty words pool out : List ℕ) (t : Ty) (v : Val) → typeOf ty ≡ some t → valueOf words pool ≡ some v → encodeKeyCall ty words pool out ≡ written out (encodeKey t v)
+pub key-call : (ty words pool out : List ℕ) (t : Ty) (v : Val) → typeOf ty ≡ some t → valueOf words pool ≡ some v → encodeKeyCall ty words pool out ≡ written out (encodeKey t v)
 unfolding encodeKeyCall
 key-call ty words pool out t v e f = rw (e, f)
 
 -- the value of an admitted sheet
-sheet-sound : (words pool : List ℕ) (v : Val) → Held words pool → valueOf words pool ≡ some v → Sound v × Proper v
+pub sheet-sound : (words pool : List ℕ) (v : Val) → Held words pool → valueOf words pool ≡ some v → Sound v × Proper v
 sheet-sound words pool v h e =
     let a = values.admitted words pool v .0 e in
     (admitted-sound words pool v (h .0) (h .1) a, a .proper)

@@ -61,8 +61,9 @@
 -- What was requested later:
 -- ReferenceSplit   a reference is a predicate of 24 bits and a sequence of 40
 -- SearchLaws   how many alternatives the search for a discriminant looks at
--- Ranges       strinc writes the least end above a prefix
+-- Ranges       strinc writes the least end above a prefix, and a span on the next field cuts exactly
 -- RangeExamples   such ends worked by hand, and wrong ones that are not the least
+-- RangeLaws    a key lies in a span on the field behind the first k exactly if these are equal and the next is in it
 -- Blank        optional types: a blank is 00 or 00 FF and sorts first, anything else is the type behind word 7; no 7 straight behind another
 -- ZeroLaws     the zeros escaped in a run, in a value and by a call: those of the pool
 pub mod Specimens
@@ -115,5 +116,6 @@ pub mod ReferenceSplit
 pub mod SearchLaws
 pub mod Ranges
 pub mod RangeExamples
+pub mod RangeLaws
 pub mod Blank
 pub mod ZeroLaws

@@ -11,14 +11,9 @@ use Rattle.format.specs.Encode.{valBytes, valsBytes, encodeKey, fits, fi
 use Rattle.format.specs.Bounds.{firsts, rests, firstBytes}
 use Rattle.format.specs.Replace.{fieldAt, setField, spliced}
 use Rattle.format.specs.Calls.{replaced}
+use Rattle.format.specs.Spans.{fieldType}
 use Rattle.format.proofs.Sound.{Sound, AllSound}
 use Rattle.format.proofs.EncodeLaws.{and-fine, key-ok}
-
--- the type of field k (Int past the last)
-unfoldable pub fieldType : ℕ → Tys → Ty
-fieldType k Tys.NoTy = Ty.Int
-fieldType zero (Tys.AddTy t ts) = t
-fieldType (suc k) (Tys.AddTy t ts) = fieldType k ts
 
 -- the key's bytes: those before the field, the field's, and those behind
 pub field-split : (k : ℕ) (vs : Vals) → k < valCount vs
@@ -77,3 +72,9 @@ unfolding setField
 set-sound k u Vals.NoVal su s = s
 set-sound zero u (Vals.AddVal v vs) su s = (su, s .1)
 set-sound (suc k) u (Vals.AddVal v vs) su s = (s .0, set-sound k u vs su (s .1))
+
+pub field-sound : (k : ℕ) (vs : Vals) → AllSound vs → Sound (fieldAt k vs)
+unfolding fieldAt
+field-sound k Vals.NoVal s = tt
+field-sound zero (Vals.AddVal v vs) s = s .0
+field-sound (suc k) (Vals.AddVal v vs) s = field-sound k vs (s .1)

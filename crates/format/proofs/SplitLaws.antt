@@ -13,15 +13,10 @@ use Rattle.format.specs.Encode.{valBytes, valsBytes}
 use Rattle.format.specs.Decode.{Decoded, after, both, decode, decodeBare, decodeKey, whole}
 use Rattle.format.specs.Bounds.{firsts, rests, firstBytes}
 use Rattle.format.specs.Replace.{fieldAt}
+use Rattle.format.specs.Spans.{firstTys, fieldType}
 use Rattle.format.proofs.Bytes.{AllBytes}
 use Rattle.format.proofs.EncodeLaws.{fits-count}
 use Rattle.format.proofs.KeyRound.{bare-canon}
-use Rattle.format.proofs.ReplaceLaws.{fieldType}
-
-unfoldable pub firstTys : ℕ → Tys → Tys
-firstTys zero ts = Tys.NoTy
-firstTys (suc k) Tys.NoTy = Tys.NoTy
-firstTys (suc k) (Tys.AddTy t ts) = Tys.AddTy t (firstTys k ts)
 
 unfoldable pub restTys : ℕ → Tys → Tys
 restTys zero ts = ts

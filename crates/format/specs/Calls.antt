@@ -125,13 +125,22 @@ pub record Bounded : Type 0 where
   pub lower : List ℕ
   pub upper : List ℕ
 
--- the bytes of the first k fields and those with FF added, each over its buffer's beginning; NoRoom, lower end first
+-- two ends as bytes
+pub record TwoEnds : Type 0 where
+  pub low : List ℕ
+  pub high : List ℕ
+
+-- both ends, each over its buffer's beginning; NoRoom, lower end first
+abbrev pub bothEnds : List ℕ → List ℕ → Answer TwoEnds → Bounded
+bothEnds lower upper (ok x) =
+    if (ltb (length lower) (length (x .low))) (record { answer = noRoom (length (x .low)); lower = lower; upper = upper })
+    (if (ltb (length upper) (length (x .high))) (record { answer = noRoom (length (x .high)); lower = lower; upper = upper })
+    (record { answer = ok (record { lower = length (x .low); upper = length (x .high) }); lower = over (x .low) lower; upper = over (x .high) upper }))
+bothEnds lower upper (refused n d) = record { answer = refused n d; lower = lower; upper = upper }
+
+-- the bytes of the first k fields, and those with FF added
 abbrev pub bounded : List ℕ → List ℕ → Answer (List ℕ) → Bounded
-bounded lower upper (ok x) =
-    if (ltb (length lower) (length x)) (record { answer = noRoom (length x); lower = lower; upper = upper })
-    (if (ltb (length upper) (length (aboveField x))) (record { answer = noRoom (length (aboveField x)); lower = lower; upper = upper })
-    (record { answer = ok (record { lower = length x; upper = length (aboveField x) }); lower = over x lower; upper = over (aboveField x) upper }))
-bounded lower upper (refused n d) = record { answer = refused n d; lower = lower; upper = upper }
+bounded lower upper a = bothEnds lower upper (andThen a (λ x. ok (record { low = x; high = aboveField x })))
 
 -- the fields of a record type; another type is NoField
 abbrev pub withFields : {A : Type 0} → Ty → (Tys → Answer A) → Answer A

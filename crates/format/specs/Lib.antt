@@ -27,3 +27,4 @@ pub mod Search
 pub mod Ranges
 pub mod Blank
 pub mod Zeros
+pub mod Spans

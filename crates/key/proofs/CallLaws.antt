@@ -17,6 +17,7 @@ use Rattle.format.specs.Encode.{valsBytes, encode, maxKeyBytes}
 use Rattle.format.specs.Decode.{Decoded, decodeKey}
 use Rattle.format.specs.Bounds.{firstBytes}
 use Rattle.format.specs.Replace.{setField, spliced}
+use Rattle.format.specs.Spans.{fieldType}
 use Rattle.format.specs.Calls.{written, withValue, replaced, bounded, boundsCall, replaceCall}
 use Rattle.format.specs.Lengths.{Leaves}
 use Rattle.format.specs.declared.Length.{Length}
@@ -25,7 +26,7 @@ use Rattle.format.proofs.Tests.{leb-yes, leb-no, ltb-yes, ltb-no, Test, holds, 
 use Rattle.format.proofs.TypeLaws as types
 use Rattle.format.proofs.TypePlaces.{TypesIn, top, kind-is, tyKind}
 use Rattle.format.proofs.TypeKinds.{record-here, no-record}
-use Rattle.format.proofs.ReplaceLaws.{fieldType, splice-is}
+use Rattle.format.proofs.ReplaceLaws.{splice-is}
 use Rattle.format.proofs.ChangeLaws.{changed-bad, changed-long, changed-ok, value-bytes, spliced-is}
 use Rattle.read.specs.Walk.{FieldsAt, TypeAt}
 use Rattle.key.specs.declared.bounding.Bounded.{Bounded}
@@ -38,15 +39,15 @@ use Rattle.key.specs.Keys.{BoundsLeft, ValueStands, with, put}
 -- ---- the type sheet
 
 -- a record type, its fields behind the first two words
-record RecordType (ty : List ℕ) : Type 0 where
-  ts : Tys
-  typed : typeOf ty ≡ some (Ty.Record ts)
-  here : TypesIn ty 2 ts (length ty)
-  count : getD ty 1 0 ≡ fieldCount ts
-  deep : nestings ts ≤ maxGroups
-  long : 1 < length ty
+pub record RecordType (ty : List ℕ) : Type 0 where
+  pub ts : Tys
+  pub typed : typeOf ty ≡ some (Ty.Record ts)
+  pub here : TypesIn ty 2 ts (length ty)
+  pub count : getD ty 1 0 ≡ fieldCount ts
+  pub deep : nestings ts ≤ maxGroups
+  pub long : 1 < length ty
 
-no-type : (ty : List ℕ) → isSome (typeOf ty) ≡ false → typeOf ty ≡ none
+pub no-type : (ty : List ℕ) → isSome (typeOf ty) ≡ false → typeOf ty ≡ none
 no-type ty h = go (typeOf ty) h
   where
     go : (o : Option Ty) → isSome o ≡ false → o ≡ none
@@ -62,11 +63,11 @@ module _ (ty : List ℕ) {b : Bool} (said : b ≡ isSome (typeOf ty)) (yes : not
   some-words = let t = types.its-tree ty adm in kind-is ty 0 (length ty) (t .0) (top ty (t .0) (t .1)) .0
 
   -- of a type that is no record
-  another : (getD ty 0 0 ≡ 5 → ⊥) → (t : Ty) × (typeOf ty ≡ some t) × (tyKind t ≡ 5 → ⊥)
+  pub another : (getD ty 0 0 ≡ 5 → ⊥) → (t : Ty) × (typeOf ty ≡ some t) × (tyKind t ≡ 5 → ⊥)
   another q = let t = types.its-tree ty adm in (t .0, types.admitted ty (t .0) .1 (t .1), λ k. q (kind-is ty 0 (length ty) (t .0) (top ty (t .0) (t .1)) .1 ∙ k))
 
   module _ (q : getD ty 0 0 ≡ 5) where
-    record-type : RecordType ty
+    pub record-type : RecordType ty
     record-type =
         let t = types.its-tree ty adm in
         let r = record-here (t .0) (top ty (t .0) (t .1)) q in

@@ -10,14 +10,14 @@ use Rattle.format.specs.TypeSheet.{maxGroups, nesting, nestings, Single, Single
 use Rattle.format.specs.Encode.{valBytes}
 use Rattle.format.specs.Decode.{Decoded, both, decode, decodeBare, decodeKey, whole}
 use Rattle.format.specs.Replace.{fieldAt}
+use Rattle.format.specs.Spans.{firstTys, fieldType}
 use Rattle.format.proofs.Bytes.{AllBytes}
 use Rattle.format.proofs.SheetPlaces.{Span, parts}
 use Rattle.format.proofs.TypePlaces.{TypeIn, TypesIn, field-in}
 use Rattle.format.proofs.EncodeLaws.{fits-count, key-parts}
 use Rattle.format.proofs.CanonLaws.{canon}
 use Rattle.format.proofs.KeyRound.{key-canon, bare-canon}
-use Rattle.format.proofs.ReplaceLaws.{fieldType}
-use Rattle.format.proofs.SplitLaws.{firstTys, restTys, joinVals, rest-next, first-count, rest-count, split-words, field-join, first-bytes, bad-first, bad-rest, left-over, good-key}
+use Rattle.format.proofs.SplitLaws.{restTys, joinVals, rest-next, first-count, rest-count, split-words, field-join, first-bytes, bad-first, bad-rest, left-over, good-key}
 use Rattle.read.specs.Walk.{FieldsAt, TypeAt}
 use Rattle.format.specs.declared.Length.{Length}
 use Rattle.key.specs.declared.passing.Passed.{Passed}
@@ -29,7 +29,7 @@ use Rattle.key.specs.Passing.{Says, to, not, PassesValue, PassesFields, 
 
 -- ---- the types of the parts
 
-first-nest : (k : ℕ) (ts : Tys) → nestings (firstTys k ts) ≤ nestings ts
+pub first-nest : (k : ℕ) (ts : Tys) → nestings (firstTys k ts) ≤ nestings ts
 unfolding firstTys nestings
 first-nest zero ts = omega arith
 first-nest (suc k) Tys.NoTy = omega arith
@@ -52,15 +52,24 @@ unfolding nestings
 nest-head t us = omega arith
 
 -- the place behind the first k types
-abbrev placeAt : ℕ → Tys → ℕ
+abbrev pub placeAt : ℕ → Tys → ℕ
 placeAt k ts = 2 + length (tysWords (firstTys k ts))
 
 module _ (ty : List ℕ) (ts : Tys) (e k : ℕ) (h : TypesIn ty 2 ts e) where
-  spans : TypesIn ty 2 (firstTys k ts) (placeAt k ts) × TypesIn ty (placeAt k ts) (restTys k ts) e
+  pub spans : TypesIn ty 2 (firstTys k ts) (placeAt k ts) × TypesIn ty (placeAt k ts) (restTys k ts) e
   spans =
       let p = parts ty 2 e (tysWords (firstTys k ts)) (tysWords (restTys k ts)) (subst (λ (l : List ℕ). Span ty 2 l e) (split-words k ts) (h .span)) in
       let o = split-single k ts (h .single) in
       (record { span = p .0; single = o .0 }, record { span = p .1; single = o .1 })
+
+-- the type behind the first k, and those behind it
+pub next-span : (ty : List ℕ) (ts : Tys) (e k : ℕ) → TypesIn ty 2 ts e → k < fieldCount ts → nestings ts ≤ maxGroups → let a = placeAt k ts in
+    TypeIn ty a (fieldType k ts) (a + length (tyWords (fieldType k ts))) × TypesIn ty (a + length (tyWords (fieldType k ts))) (restTys (suc k) ts) e × (nesting (fieldType k ts) ≤ maxGroups)
+next-span ty ts e k h l d =
+    let nx = rest-next k ts l in
+    let f = field-in ty (placeAt k ts) e (fieldType k ts) (restTys (suc k) ts) (subst (λ (us : Tys). TypesIn ty (placeAt k ts) us e) nx (spans ty ts e k h .1)) in
+    let m : nestings (Tys.AddTy (fieldType k ts) (restTys (suc k) ts)) ≤ nestings ts = subst (λ (us : Tys). nestings us ≤ nestings ts) nx (rest-nest k ts) in
+    (f .0, f .1, omega (arith, m, nest-head (fieldType k ts) (restTys (suc k) ts)))
 
 pub first-fields : {ty : List ℕ} {n k : ℕ} → k ≤ n → FieldsAt ty 2 n → FieldsAt ty 2 k
 first-fields {ty} {n} {k} l f = record {
@@ -172,17 +181,7 @@ module _ {ty : List ℕ} {n : ℕ} {key : List ℕ} {k : ℕ} (kn : k < n) {w : 
   -- the field's type stands there
   field-span : (ts : Tys) (e : ℕ) → TypesIn ty 2 ts e → n ≡ fieldCount ts → nestings ts ≤ maxGroups
       → TypeIn ty a (fieldType k ts) (a + length (tyWords (fieldType k ts))) × TypesIn ty (a + length (tyWords (fieldType k ts))) (restTys (suc k) ts) e × (nesting (fieldType k ts) ≤ maxGroups)
-  field-span ts e h c d =
-      let ea = place-of (first-says {n = n} (omega arith) (To a start) first ts e h c d) in
-      let nx = rest-next k ts (omega arith) in
-      let s : TypesIn ty a (Tys.AddTy (fieldType k ts) (restTys (suc k) ts)) e = subst (λ (us : Tys). TypesIn ty a us e) nx (rw ea (spans ty ts e k h .1)) in
-      let f = field-in ty a e (fieldType k ts) (restTys (suc k) ts) s in
-      (f .0, f .1, deep nx)
-    where
-      deep : restTys k ts ≡ Tys.AddTy (fieldType k ts) (restTys (suc k) ts) → nesting (fieldType k ts) ≤ maxGroups
-      deep nx =
-          let m : nestings (Tys.AddTy (fieldType k ts) (restTys (suc k) ts)) ≤ nestings ts = subst (λ (us : Tys). nestings us ≤ nestings ts) nx (rest-nest k ts) in
-          omega (arith, m, nest-head (fieldType k ts) (restTys (suc k) ts))
+  field-span ts e h c d = rw (place-of (first-says {n = n} (omega arith) (To a start) first ts e h c d)) (next-span ty ts e k h (omega arith) d)
 
   pub start-of : FieldsAt ty 2 n → start ≤ length key
   start-of f = start-in {n = n} (omega arith) pw yw f

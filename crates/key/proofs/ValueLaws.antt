@@ -26,7 +26,7 @@ use Rattle.fit.specs.Fit.{Standing, FitValue, Brief, Says}
 use Rattle.key.specs.Keys.{ValueStands, Splices, with, put}
 use Rattle.key.proofs.SpliceLaws.{whole-long}
 
-no-value : (words pool : List ℕ) → isSome (valueOf words pool) ≡ false → valueOf words pool ≡ none
+pub no-value : (words pool : List ℕ) → isSome (valueOf words pool) ≡ false → valueOf words pool ≡ none
 no-value words pool h = go (valueOf words pool) h
   where
     go : (o : Option Val) → isSome o ≡ false → o ≡ none
@@ -35,16 +35,16 @@ no-value words pool h = go (valueOf words pool) h
 
 -- an admitted sheet, by the test's answer
 module _ (words pool : List ℕ) {b : Bool} (said : b ≡ isSome (valueOf words pool)) (yes : not b ≡ false) where
-  its : (v : Val) × Admitted words pool v
+  pub its : (v : Val) × Admitted words pool v
   its = values.its-tree words pool (sym said ∙ not-false b yes)
 
-  abbrev its-value : Val
+  abbrev pub its-value : Val
   its-value = its .0
 
-  it-is : valueOf words pool ≡ some its-value
+  pub it-is : valueOf words pool ≡ some its-value
   it-is = values.admitted words pool its-value .1 (its .1)
 
-  it-stands : ValueIn words pool 0 0 its-value (length words) (length pool)
+  pub it-stands : ValueIn words pool 0 0 its-value (length words) (length pool)
   it-stands = top words pool its-value (its .1)
 
   -- it is there to be measured

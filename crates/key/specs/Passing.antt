@@ -10,9 +10,9 @@ use Rattle.format.specs.Encode.{valBytes, valsBytes, fitsAll, fine}
 use Rattle.format.specs.Decode.{Decoded, decode, decodeBare, decodeKey, whole}
 use Rattle.format.specs.Bounds.{firstBytes}
 use Rattle.format.specs.Replace.{fieldAt}
+use Rattle.format.specs.Spans.{fieldType}
 use Rattle.format.proofs.Bytes.{AllBytes}
 use Rattle.format.proofs.TypePlaces.{TypeIn, TypesIn}
-use Rattle.format.proofs.ReplaceLaws.{fieldType}
 use Rattle.format.specs.declared.Length.{Length}
 use Rattle.key.specs.declared.passing.Passed.{Passed}
 use Rattle.key.specs.declared.passing.Passed.the-variants as passed
