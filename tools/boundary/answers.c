@@ -96,6 +96,26 @@ int main(void) {
     length("above_field", tuple_above_field(key, 5, out, 16), 0, 0, 6);
     ends("bounds", tuple_bounds(tank, 4, key, 7, 1, out, 16, more, 16), 0, 0, 5, 6);
     ends("bounds, short", tuple_bounds(tank, 4, key, 7, 1, out, 5, more, 5), TUPLE_NO_ROOM, 6, 0, 0);
+    /* the numbers 7 to 256 of this tank, and the tags 0A to 0A 00 of any, whose sheets have pools; a refused call leaves the ends of the one before it */
+    const uint64_t first[] = {5, 1, 3, 2}, no_field[] = {5, 0}, one_byte[] = {3, 1}, number_256[] = {1, 256};
+    ends("span of tags", tuple_span(tank, 4, no_field, 2, NULL, 0, one_byte, 2, tag, 1, words + 2, 2, tag, 2, out, 16, more, 16), 0, 0, 3, 6);
+    if (memcmp(out, key, 3) != 0 || memcmp(more, (const uint8_t[]){0x53, 0x0A, 0x00, 0xFF, 0x00, 0xFF}, 6) != 0) {
+        puts("span of tags: the ends' bytes differ");
+        wrong++;
+    }
+    ends("span", tuple_span(tank, 4, first, 4, tag, 2, words + 4, 2, NULL, 0, number_256, 2, NULL, 0, out, 16, more, 16), 0, 0, 7, 9);
+    ends("span, no type", tuple_span(tank, 3, null, 0, NULL, 0, null, 0, NULL, 0, null, 0, NULL, 0, out, 16, more, 16), TUPLE_BAD_TYPE, 0, 0, 0);
+    ends("span, no record", tuple_span(tank, 4, words + 2, 2, tag, 2, words + 4, 2, NULL, 0, number_256, 2, NULL, 0, out, 16, more, 16), TUPLE_BAD_VALUE, 0, 0, 0);
+    ends("span, no lowest", tuple_span(tank, 4, words, 6, tag, 2, words + 4, 1, NULL, 0, number_256, 2, NULL, 0, out, 16, more, 16), TUPLE_BAD_VALUE, 0, 0, 0);
+    ends("span, no highest", tuple_span(tank, 4, words, 6, tag, 2, words + 4, 2, NULL, 0, number_256, 2, tag, 1, out, 16, more, 16), TUPLE_BAD_VALUE, 0, 0, 0);
+    ends("span, no field", tuple_span(tank, 4, words, 6, tag, 2, words + 4, 2, NULL, 0, number_256, 2, NULL, 0, out, 16, more, 16), TUPLE_NO_FIELD, 0, 0, 0);
+    ends("span, null", tuple_span(tank, 4, first, 4, tag, 2, words + 4, 2, NULL, 0, null, 1, NULL, 0, out, 16, more, 16), TUPLE_TYPE_MISMATCH, 1, 0, 0);
+    ends("span, short", tuple_span(tank, 4, first, 4, tag, 2, words + 4, 2, NULL, 0, number_256, 2, NULL, 0, out, 6, more, 0), TUPLE_NO_ROOM, 7, 0, 0);
+    ends("span, short above", tuple_span(tank, 4, first, 4, tag, 2, nine, 2, NULL, 0, number_256, 2, NULL, 0, out, 7, more, 8), TUPLE_NO_ROOM, 9, 0, 0);
+    if (memcmp(out, key, 7) != 0 || memcmp(more, key, 5) != 0 || memcmp(more + 5, (const uint8_t[]){0x4A, 0x01, 0x00, 0xFF}, 4) != 0) {
+        puts("span: the ends' bytes differ");
+        wrong++;
+    }
     memcpy(out, key, 7);
     length("replace", tuple_replace(tank, 4, out, 16, 7, 1, nine, 2, NULL, 0), 0, 0, 7);
     length("replace, null", tuple_replace(tank, 4, out, 16, 7, 1, null, 1, NULL, 0), TUPLE_TYPE_MISMATCH, 1, 0);

@@ -73,6 +73,11 @@ done <<'END'
 strinc-tight include/tuple.h
 strinc-tight crates/tuple/src/keys.rt
 strinc-tight rust/src/lib.rs
+spans include/tuple.h
+spans crates/tuple/src/keys.rt
+spans rust/src/lib.rs
+exact-call include/tuple.h
+exact-call crates/tuple/src/keys.rt
 scrolls include/tuple.h
 scrolls crates/tuple/src/reader.rt
 scrolls crates/chars/src/lib.rt

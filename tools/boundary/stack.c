@@ -141,11 +141,25 @@ static void compare(void) { refusal = tuple_compare(now->words, now->words_len, 
 static void strinc(void) { refusal = tuple_strinc(now->key, now->key_len, out, BYTES).refusal; }
 static void above_field(void) { refusal = tuple_above_field(now->key, now->key_len, out, BYTES).refusal; }
 static void bounds(void) { refusal = tuple_bounds(now->type, now->type_len, now->key, now->key_len, 1, out, BYTES, more, BYTES).refusal; }
-/* the new value is the record's first field again, or of many fields an Int; an Int behind the first field is two words */
+/* the words of the record's first field, or of the union's payload; a field behind the first is an Int, two words */
+static size_t first_field(void) { return now->words_len - (now->words[0] == 5 ? 2 * now->words[1] : 2); }
+/* the span from the first field to itself; of a record of more, then that from the last to itself, behind all the others */
+static void span(void) {
+    const uint64_t none[] = {5, 0}, *field = now->words + 2;
+    size_t n = first_field();
+    refusal = tuple_span(now->type, now->type_len, none, 2, NULL, 0, field, n, NULL, 0, field, n, NULL, 0, out, BYTES, more, BYTES).refusal;
+    if (now->words[0] == 5 && now->words[1] > 1) {
+        n = now->words_len - 2;
+        field = now->words + n;
+        memcpy(sheet, now->words, n * 8);
+        sheet[1]--;
+        refusal = tuple_span(now->type, now->type_len, sheet, n, NULL, 0, field, 2, NULL, 0, field, 2, NULL, 0, out, BYTES, more, BYTES).refusal;
+    }
+}
+/* the new value is the record's first field again */
 static void replace(void) {
     memcpy(out, now->key, now->key_len);
-    size_t n = now->words[1] == 1 ? now->words_len - 2 : now->words[1] == 2 ? now->words_len - 4 : 2;
-    refusal = tuple_replace(now->type, now->type_len, out, BYTES, now->key_len, 0, now->words + 2, n, now->pool, now->pool_len).refusal;
+    refusal = tuple_replace(now->type, now->type_len, out, BYTES, now->key_len, 0, now->words + 2, first_field(), now->pool, now->pool_len).refusal;
 }
 static void get_i64(void) { refusal = tuple_get_i64(now->key, now->key_len).refusal; }
 static void get_u64(void) { refusal = tuple_get_u64(now->key, now->key_len).refusal; }
@@ -162,7 +176,7 @@ static const struct {
     const char *name;
     void (*run)(void);
 } calls[] = {{"(an empty thread)", nothing}, {"encode_typed", encode_typed}, {"encode_key", encode_key}, {"decode_typed", decode_typed}, {"decode_key", decode_key}, {"check_key", check_key}, {"skip", skip},
-             {"compare", compare}, {"strinc", strinc}, {"above_field", above_field}, {"bounds", bounds}, {"replace", replace}, {"get_i64", get_i64}, {"get_u64", get_u64}, {"get_str", get_str},
+             {"compare", compare}, {"strinc", strinc}, {"above_field", above_field}, {"bounds", bounds}, {"span", span}, {"replace", replace}, {"get_i64", get_i64}, {"get_u64", get_u64}, {"get_str", get_str},
              {"get_bytes", get_bytes}, {"put_i64", put_i64}, {"put_u64", put_u64}, {"put_str", put_str}, {"put_bytes", put_bytes}, {"put_fact_id", put_fact_id}};
 
 static void *run(void *call) {

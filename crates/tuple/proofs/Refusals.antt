@@ -20,7 +20,8 @@ use Rattle.format.specs.Order.{cmpVal}
 use Rattle.format.specs.Bounds.{raisedOr, trimmed, strinc, aboveField, firstBytes}
 use Rattle.format.specs.Replace.{setField, spliced}
 use Rattle.format.specs.Calls as calls
-use Rattle.format.specs.Calls.{withType, withValue, written, filled, decodedBy, checkedBy, bounded, withFields, withKey, replaced, withUsed}
+use Rattle.format.specs.Calls.{withType, withValue, written, filled, decodedBy, checkedBy, TwoEnds, bothEnds, bounded, withFields, withKey, replaced, withUsed}
+use Rattle.format.specs.Spans.{withRecord, firstTys, fieldType, withNext, spanOf, spanFor, spanCall}
 use Rattle.format.specs.Fields as fields
 use Rattle.format.specs.Fields.{takenFrom, placedFrom, hasZero, putAt}
 use Rattle.tuple.specs.Numbers.{lastRefusal, Listed, Numbered, RefusalsNumbered}
@@ -341,9 +342,12 @@ bounded-if : (b : Bool) (x y : calls.Bounded) → Numbered (x .answer) → Numbe
 bounded-if true x y p q = p
 bounded-if false x y p q = q
 
+two-ends : (lower upper : List ℕ) (a : Answer TwoEnds) → Numbered a → Numbered (bothEnds lower upper a .answer)
+two-ends lower upper (ok x) p = bounded-if (ltb (length lower) (length (x .low))) _ _ (listed tt tt) (bounded-if (ltb (length upper) (length (x .high))) _ _ (listed tt tt) tt)
+two-ends lower upper (refused n d) p = p
+
 bounds : (lower upper : List ℕ) (a : Answer (List ℕ)) → Numbered a → Numbered (bounded lower upper a .answer)
-bounds lower upper (ok x) p = bounded-if (ltb (length lower) (length x)) _ _ (listed tt tt) (bounded-if (ltb (length upper) (length (aboveField x))) _ _ (listed tt tt) tt)
-bounds lower upper (refused n d) p = p
+bounds lower upper a p = two-ends lower upper (andThen a _) (numbered-then a _ p (λ x. tt))
 
 fields-of : {A : Type 0} (t : Ty) (f : Tys → Answer A) → ((ts : Tys) → Numbered (f ts)) → Numbered (withFields t f)
 fields-of Ty.Int f p = listed tt tt
@@ -426,8 +430,30 @@ replaces ty buffer used field words pool =
     typed (typeOf ty) (λ t. withFields t (fieldOf buffer used field words pool))
     (λ t. fields-of t (fieldOf buffer used field words pool) (field-of buffer used field words pool))
 
+-- the first k values' sheet
+recorded : {A : Type 0} (o : Option Val) (f : Vals → Answer A) → ((vs : Vals) → Numbered (f vs)) → Numbered (withRecord o f)
+recorded none f p = listed tt tt
+recorded (some Val.Null) f p = listed tt tt
+recorded (some (Val.Int w)) f p = listed tt tt
+recorded (some (Val.Str s)) f p = listed tt tt
+recorded (some (Val.Bytes s)) f p = listed tt tt
+recorded (some (Val.Ref r)) f p = listed tt tt
+recorded (some (Val.Record vs)) f p = p vs
+recorded (some (Val.Union d v)) f p = listed tt tt
+
+-- the field behind them
+next-of : {A : Type 0} (t : Ty) (k : ℕ) (f : Tys → Ty → Answer A) → ((ts : Tys) (u : Ty) → Numbered (f ts u)) → Numbered (withNext t k f)
+next-of t k f p = fields-of t _ (λ ts. numbered-if (ltb k (fieldCount ts)) _ _ (p (firstTys k ts) (fieldType k ts)) (listed tt tt))
+
+spans-numbered : (ty words pool lowWords lowPool highWords highPool : List ℕ) → Numbered (spanFor ty words pool lowWords lowPool highWords highPool)
+unfolding spanFor
+spans-numbered ty words pool lowWords lowPool highWords highPool =
+    typed (typeOf ty) _ (λ t. recorded (valueOf words pool) _ (λ vs. valued (valueOf lowWords lowPool) _ (λ lo. valued (valueOf highWords highPool) _ (λ hi.
+    next-of t (valCount vs) (spanOf vs lo hi) (λ ts u.
+    numbered-then (fitsAll ts 0 vs) _ (fittingAll ts 0 vs) (λ a. numbered-then (fits u 0 lo) _ (fitting u 0 lo) (λ b. numbered-then (fits u 0 hi) _ (fitting u 0 hi) (λ c. tt))))))))
+
 pub refusals-numbered : RefusalsNumbered
-unfolding calls.encodeTypedCall calls.encodeKeyCall calls.decodeTypedCall calls.decodeKeyCall calls.checkKeyCall calls.skipCall calls.compareCall calls.strincCall strinc calls.aboveFieldCall calls.boundsCall calls.replaceCall
+unfolding calls.encodeTypedCall calls.encodeKeyCall calls.decodeTypedCall calls.decodeKeyCall calls.checkKeyCall calls.skipCall calls.compareCall calls.strincCall strinc calls.aboveFieldCall calls.boundsCall spanCall calls.replaceCall
     fields.getI64Call fields.getU64Call fields.getStrCall fields.getBytesCall fields.putI64Call fields.putU64Call fields.putStrCall fields.putBytesCall fields.putFactIdCall
 refusals-numbered =
     record {
@@ -443,6 +469,8 @@ refusals-numbered =
       bounds = λ ty bs k lower upper.
           bounds lower upper (withKeyOf ty bs (λ ts. leb k (fieldCount ts)) (λ ts vs. ok (firstBytes k vs)))
           (with-key-of ty bs (λ ts. leb k (fieldCount ts)) (λ ts vs. ok (firstBytes k vs)) (λ ts vs. tt));
+      span = λ ty words pool lowWords lowPool highWords highPool lower upper.
+          two-ends lower upper (spanFor ty words pool lowWords lowPool highWords highPool) (spans-numbered ty words pool lowWords lowPool highWords highPool);
       replace = λ ty buffer used field words pool.
           writes buffer (withType (typeOf ty) (λ t. withFields t (fieldOf buffer used field words pool))) (replaces ty buffer used field words pool);
       get-i64 = λ bs. takes bs (getInt bs) (int bs);

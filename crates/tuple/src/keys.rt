@@ -1,10 +1,11 @@
-// Keys and sheets compared, passed over, bounded and changed.
+// Keys and sheets compared, passed over, bounded, spanned and changed.
 use crate::answers;
 use crate::answers::Ends;
 use crate::answers::Length;
 use crate::answers::Order;
 ghost use mathlib.Core.Path.{_≡_};
 ghost use Rattle.format.specs.Calls.{skipCall, compareCall, strincCall, aboveFieldCall, boundsCall, replaceCall};
+ghost use Rattle.format.specs.Spans.{spanCall};
 ghost use Rattle.tuple.specs.Numbers.{lengthOf, orderOf, Writes, Bounds};
 
 #[no_mangle]
@@ -52,6 +53,35 @@ pub extern "C" fn tuple_bounds(
     ensures { λ r. ⌜ Bounds (boundsCall (now (ty .entry)) (now (key .entry)) k (now (lower .entry)) (now (upper .entry))) r (now (lower .exit)) (now (upper .exit)) ⌝ }
 {
     answers::of_bounded(key::bounds(ty, key, k, lower, upper))
+}
+
+// Between the ends of an accepted call lie exactly the keys of the type whose first k fields are equal and whose next lies in the span: theorem exact-call,
+// which has it from this contract and from theorem spans of format.
+#[no_mangle]
+pub extern "C" fn tuple_span(
+    ty: &[u32],
+    words: &[u64],
+    pool: &[u8],
+    lowest_words: &[u64],
+    lowest_pool: &[u8],
+    highest_words: &[u64],
+    highest_pool: &[u8],
+    lower: &mut [u8],
+    upper: &mut [u8],
+) -> Ends
+    ensures { λ r. ⌜ Bounds (spanCall (now (ty .entry)) (now (words .entry)) (now (pool .entry)) (now («lowest_words» .entry)) (now («lowest_pool» .entry)) (now («highest_words» .entry)) (now («highest_pool» .entry)) (now (lower .entry)) (now (upper .entry))) r (now (lower .exit)) (now (upper .exit)) ⌝ }
+{
+    answers::of_bounded(key::span(
+        ty,
+        words,
+        pool,
+        lowest_words,
+        lowest_pool,
+        highest_words,
+        highest_pool,
+        lower,
+        upper,
+    ))
 }
 
 #[no_mangle]
