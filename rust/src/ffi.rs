@@ -172,6 +172,12 @@ unsafe extern "C" {
     fn tuple_strinc(prefix: *const u8, prefix_len: usize, out: *mut u8, out_len: usize) -> Length;
     fn tuple_above_field(key: *const u8, key_len: usize, out: *mut u8, out_len: usize) -> Length;
     fn tuple_bounds(ty: *const u32, ty_len: usize, key: *const u8, key_len: usize, k: usize, lower: *mut u8, lower_len: usize, upper: *mut u8, upper_len: usize) -> Ends;
+    fn tuple_span(
+        ty: *const u32, ty_len: usize, words: *const u64, words_len: usize, pool: *const u8, pool_len: usize,
+        lowest_words: *const u64, lowest_words_len: usize, lowest_pool: *const u8, lowest_pool_len: usize,
+        highest_words: *const u64, highest_words_len: usize, highest_pool: *const u8, highest_pool_len: usize,
+        lower: *mut u8, lower_len: usize, upper: *mut u8, upper_len: usize
+    ) -> Ends;
     fn tuple_replace(ty: *const u32, ty_len: usize, buffer: *mut u8, buffer_len: usize, used: usize, field: usize, words: *const u64, words_len: usize, pool: *const u8, pool_len: usize) -> Length;
     fn tuple_get_i64(bytes: *const u8, bytes_len: usize) -> Number;
     fn tuple_get_u64(bytes: *const u8, bytes_len: usize) -> Number;
@@ -283,6 +289,35 @@ pub(crate) fn bounds(ty: &[u32], key: &[u8], k: usize, lower: &mut [u8], upper: 
     // any k is answered.
     unsafe {
         tuple_bounds(ty.as_ptr(), ty.len(), key.as_ptr(), key.len(), k, lower.as_mut_ptr(), lower.len(), upper.as_mut_ptr(), upper.len())
+    }
+}
+
+pub(crate) fn span(ty: &[u32], first: &ValueSheet, lowest: &ValueSheet, highest: &ValueSheet, lower: &mut [u8], upper: &mut [u8]) -> Ends {
+    let (words, pool) = (first.words(), first.pool());
+    let (lowest_words, lowest_pool, highest_words, highest_pool) = (lowest.words(), lowest.pool(), highest.words(), highest.pool());
+    // SAFETY: each pointer and length are of one slice that lives through the call; `lower` and `upper`, which are written, are borrowed alone; the
+    // sheets are only read, so that two of them may be one.
+    unsafe {
+        tuple_span(
+            ty.as_ptr(),
+            ty.len(),
+            words.as_ptr(),
+            words.len(),
+            pool.as_ptr(),
+            pool.len(),
+            lowest_words.as_ptr(),
+            lowest_words.len(),
+            lowest_pool.as_ptr(),
+            lowest_pool.len(),
+            highest_words.as_ptr(),
+            highest_words.len(),
+            highest_pool.as_ptr(),
+            highest_pool.len(),
+            lower.as_mut_ptr(),
+            lower.len(),
+            upper.as_mut_ptr(),
+            upper.len(),
+        )
     }
 }
 
@@ -501,5 +536,70 @@ mod tests {
         let mut buffer = [0x53, 0x0A, 0, 0x49, 7];
         assert_eq!(replace(&[5, 2, 3, 1], &mut buffer, 6, 1, &ValueSheet::of(&[1, 8], &[])).said(), (17, 6));
         assert_eq!(buffer, [0x53, 0x0A, 0, 0x49, 7]);
+    }
+
+    /// A span from these sheets into rooms of EE: refusal and detail, both lengths, both buffers.
+    fn spanned(
+        ty: &[u32],
+        (words, pool): (&[u64], &[u8]),
+        lowest: &[u64],
+        highest: &[u64],
+        (lower, upper): (usize, usize),
+    ) -> ((u32, u64), u64, u64, Vec<u8>, Vec<u8>) {
+        let (mut lower, mut upper) = (vec![0xEE; lower], vec![0xEE; upper]);
+        let [lowest, highest] = [lowest, highest].map(|words| ValueSheet::of(words, &[]));
+        let answer = span(ty, &ValueSheet::of(words, pool), &lowest, &highest, &mut lower, &mut upper);
+        (answer.said(), answer.lower, answer.upper, lower, upper)
+    }
+
+    #[test]
+    fn a_span_writes_the_beginnings_of_its_buffers() {
+        let (tank, first) = ([5, 2, 3, 1], (&[5, 1, 3, 1][..], &[0x0A][..]));
+        let (lower, upper) = (vec![0x53, 0x0A, 0, 0x49, 40], vec![0x53, 0x0A, 0, 0x49, 60, 0xFF]);
+        assert_eq!(spanned(&tank, first, &[1, 40], &[1, 60], (5, 6)), ((0, 0), 5, 6, lower.clone(), upper.clone()));
+        let behind = |bytes: &[u8]| [bytes, &[0xEE; 2]].concat();
+        assert_eq!(spanned(&tank, first, &[1, 40], &[1, 60], (7, 8)), ((0, 0), 5, 6, behind(&lower), behind(&upper)));
+        // the one may be much longer than the other
+        let (lower, upper) = (vec![0x53, 0x0A, 0, 0x48], vec![0x53, 0x0A, 0, 0x4E, 1, 0, 0, 0, 0, 0, 0xFF]);
+        assert_eq!(spanned(&tank, first, &[1, 0], &[1, 1 << 40], (4, 11)), ((0, 0), 4, 11, lower, upper));
+    }
+
+    #[test]
+    fn a_refused_span_shows_no_lengths_and_writes_nothing() {
+        let (tank, first) = ([5, 2, 3, 1], (&[5, 1, 3, 1][..], &[0x0A][..]));
+        let none = (&[5, 0][..], &[][..]);
+        for (ty, first, lowest, highest, rooms, refusal) in [
+            // the type, then each sheet, then the field
+            (&[9][..], (&[9][..], &[][..]), &[9][..], &[9][..], (0, 0), (15, 0)),
+            (&[], first, &[1, 40], &[1, 60], (9, 9), (15, 0)),
+            (&[1], (&[0], &[]), &[1, 40], &[1, 60], (9, 9), (16, 0)),
+            (&tank, (&[3, 1], &[0x0A]), &[1, 40], &[1, 60], (9, 9), (16, 0)),
+            (&tank, (&[5, 1, 3, 2], &[0x0A]), &[1, 40], &[1, 60], (9, 9), (16, 0)),
+            (&tank, (&[5, 2, 3, 1], &[0x0A]), &[1, 40], &[1, 60], (9, 9), (16, 0)),
+            (&tank, (&[5, 1, 3, 1, 0], &[0x0A]), &[1, 40], &[1, 60], (9, 9), (16, 0)),
+            (&tank, first, &[], &[1, 60], (9, 9), (16, 0)),
+            (&tank, first, &[1, 40, 0], &[1, 60], (9, 9), (16, 0)),
+            (&tank, first, &[1, 40], &[2, 1], (9, 9), (16, 0)),
+            (&tank, first, &[1, 40], &[6, 1 << 32, 0], (9, 9), (16, 0)),
+            (&[1], none, &[1, 40], &[9], (9, 9), (16, 0)),
+            (&[1], none, &[1, 40], &[1, 60], (9, 9), (18, 0)),
+            (&[7, 5, 1, 1], none, &[1, 40], &[1, 60], (9, 9), (18, 0)),
+            (&[5, 0], none, &[1, 40], &[1, 60], (9, 9), (18, 0)),
+            (&tank, (&[5, 2, 0, 0], &[]), &[0], &[0], (0, 0), (18, 0)),
+            // the values in order, then the room
+            (&tank, (&[5, 1, 1, 1], &[]), &[0], &[0], (0, 0), (11, 3)),
+            (&tank, first, &[0], &[2, 0], (0, 0), (11, 1)),
+            (&tank, first, &[1, 40], &[2, 0], (0, 0), (11, 1)),
+            (&tank, first, &[1, 40], &[1, 60], (4, 0), (17, 5)),
+            (&tank, first, &[1, 40], &[1, 60], (4, 9), (17, 5)),
+            (&tank, first, &[1, 40], &[1, 60], (5, 5), (17, 6)),
+            (&tank, first, &[1, 40], &[1, 60], (9, 0), (17, 6)),
+            (&tank, first, &[1, 0], &[1, 1 << 40], (3, 10), (17, 4)),
+            (&tank, first, &[1, 0], &[1, 1 << 40], (4, 4), (17, 11)),
+            (&tank, first, &[1, 0], &[1, 1 << 40], (20, 10), (17, 11)),
+        ] {
+            let due = (refusal, 0, 0, vec![0xEE; rooms.0], vec![0xEE; rooms.1]);
+            assert_eq!(spanned(ty, first, lowest, highest, rooms), due, "{ty:?} {first:?} {lowest:?} {highest:?} {rooms:?}");
+        }
     }
 }

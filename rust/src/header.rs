@@ -42,20 +42,21 @@ fn declared() -> Vec<Call> {
 }
 
 fn here() -> Vec<Call> {
-    let lines = FFI.lines().filter_map(|line| line.trim().strip_prefix("fn tuple_"));
-    let call = |line: &str| {
-        let (name, rest) = line.split_once('(').unwrap();
-        let (parameters, answer) = rest.strip_suffix(';').unwrap().split_once(") -> ").unwrap();
-        let types = parameters.split(',').map(|parameter| parameter.split_once(": ").unwrap().1.to_owned());
+    // from each name to the semicolon: a declaration may stand on several lines
+    let declarations = FFI.split("\n    fn tuple_").skip(1).map(|rest| rest.split_once(';').unwrap().0);
+    let call = |declaration: &str| {
+        let (name, rest) = declaration.split_once('(').unwrap();
+        let (parameters, answer) = rest.split_once(") -> ").unwrap();
+        let types = parameters.split(',').map(|parameter| parameter.split_once(": ").unwrap().1.trim().to_owned());
         (format!("tuple_{name}"), types.collect(), answer.to_owned())
     };
-    lines.map(call).collect()
+    declarations.map(call).collect()
 }
 
 #[test]
 fn every_call() {
     let calls = declared();
-    assert!(calls.len() >= 36);
+    assert!(calls.len() >= 37);
     assert_eq!(here(), calls);
 }
 

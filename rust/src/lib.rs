@@ -71,6 +71,12 @@ fn first_room(value: &ValueSheet) -> usize {
     value.words().len() / 2 * 9 + value.pool().len() + 1
 }
 
+/// Room that is enough for every sheet: a byte more for each zero in the pool. A number, a reference and a union's tag with its end have at most nine bytes, a
+/// blank, which is one word, at most two.
+fn whole_room(value: &ValueSheet) -> usize {
+    first_room(value) + value.pool().iter().filter(|byte| **byte == 0).count()
+}
+
 /// Encodes a value under its type. A record at the top is a group, as it is within a record.
 ///
 /// Refusals: 6, 8, 9, 10, 11, 12, 15, 16.
@@ -268,6 +274,45 @@ pub fn bounds(ty: &Type, key: &[u8], k: usize) -> Result<Range<Vec<u8>>, Refusal
     // The ends are a part of the key, and that with one byte more.
     let (mut lower, mut upper) = (vec![0; key.len()], vec![0; key.len() + 1]);
     let answer = ffi::bounds(&ty.sheet(), key, k, &mut lower, &mut upper).accepted()?;
+    lower.truncate(answer.lower as usize);
+    upper.truncate(answer.upper as usize);
+    Ok(lower..upper)
+}
+
+/// The range of a span on the field behind the first `k`, `k` being how many are given. Of the keys of a record type it holds exactly those whose first `k`
+/// fields are these and whose next lies from the lowest to the highest, both included (theorem `spans` of crate `format`). The field may be of any kind; where
+/// it is optional, [`Value::Null`] is below every other value.
+///
+/// Where the lowest is above the highest, no key lies between the two ends. The range is then empty and starts behind its end, on which [`BTreeMap::range`]
+/// panics.
+///
+/// Refusals: 15, 16, 18 where there is no field behind the first `k`, then those of [`encode_typed`] for each value. There is no 7: an end may be longer than
+/// a key.
+///
+/// ```
+/// use tuple::{Refusal, Type, Value, encode_key, span};
+///
+/// // the batches 40 to 60 of tank 0A
+/// let tank = Type::record([Type::Bytes, Type::Int]);
+/// let range = span(&tank, &[Value::from(b"\x0A")], &Value::Int(40), &Value::Int(60)).unwrap();
+/// assert_eq!(range, vec![0x53, 0x0A, 0x00, 0x49, 40]..vec![0x53, 0x0A, 0x00, 0x49, 60, 0xFF]);
+///
+/// let batch = |tag: &[u8], number| encode_key(&tank, &Value::record([Value::from(tag), Value::Int(number)])).unwrap();
+/// assert!(range.contains(&batch(b"\x0A", 40)) && range.contains(&batch(b"\x0A", 60)));
+/// assert!(!range.contains(&batch(b"\x0A", 61)) && !range.contains(&batch(b"\x0A\x00", 50)));
+///
+/// // there is no field behind the number
+/// let both = [Value::from(b"\x0A"), Value::Int(40)];
+/// assert_eq!(span(&tank, &both, &Value::Int(40), &Value::Int(60)), Err(Refusal::NoField));
+/// ```
+///
+/// [`BTreeMap::range`]: std::collections::BTreeMap::range
+pub fn span(ty: &Type, first: &[Value], lowest: &Value, highest: &Value) -> Result<Range<Vec<u8>>, Refusal> {
+    let (first, lowest, highest) = (ValueSheet::record(first), lowest.sheet(), highest.sheet());
+    // The first fields stand bare, so that the room for their record's two words is the FF's.
+    let room = |next| vec![0; whole_room(&first) + whole_room(next)];
+    let (mut lower, mut upper) = (room(&lowest), room(&highest));
+    let answer = ffi::span(&ty.sheet(), &first, &lowest, &highest, &mut lower, &mut upper).accepted()?;
     lower.truncate(answer.lower as usize);
     upper.truncate(answer.upper as usize);
     Ok(lower..upper)

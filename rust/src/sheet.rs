@@ -304,24 +304,7 @@ impl Value {
     #[must_use]
     pub fn sheet(&self) -> ValueSheet {
         let mut sheet = ValueSheet::default();
-        let mut due = vec![self];
-        while let Some(value) = due.pop() {
-            match value {
-                Value::Null => sheet.words.push(0),
-                Value::Int(number) => sheet.words.extend([1, *number as u64]),
-                Value::Str(text) => sheet.run(2, text.as_bytes()),
-                Value::Bytes(bytes) => sheet.run(3, bytes),
-                Value::FactRef(id) => sheet.words.extend([4, id.raw()]),
-                Value::Record(fields) => {
-                    sheet.words.extend([5, fields.len() as u64]);
-                    due.extend(fields.iter().rev());
-                }
-                Value::Union { disc, value } => {
-                    sheet.words.extend([6, u64::from(*disc)]);
-                    due.push(value);
-                }
-            }
-        }
+        sheet.put(vec![self]);
         sheet
     }
 
@@ -436,6 +419,34 @@ impl ValueSheet {
         &self.pool
     }
 
+    /// The sheet of the record of these fields.
+    pub(crate) fn record(fields: &[Value]) -> ValueSheet {
+        let mut sheet = ValueSheet { words: vec![5, fields.len() as u64], pool: Vec::new() };
+        sheet.put(fields.iter().rev().collect());
+        sheet
+    }
+
+    /// Puts these values behind, the last of them first. It does not recur.
+    fn put(&mut self, mut due: Vec<&Value>) {
+        while let Some(value) = due.pop() {
+            match value {
+                Value::Null => self.words.push(0),
+                Value::Int(number) => self.words.extend([1, *number as u64]),
+                Value::Str(text) => self.run(2, text.as_bytes()),
+                Value::Bytes(bytes) => self.run(3, bytes),
+                Value::FactRef(id) => self.words.extend([4, id.raw()]),
+                Value::Record(fields) => {
+                    self.words.extend([5, fields.len() as u64]);
+                    due.extend(fields.iter().rev());
+                }
+                Value::Union { disc, value } => {
+                    self.words.extend([6, u64::from(*disc)]);
+                    due.push(value);
+                }
+            }
+        }
+    }
+
     fn run(&mut self, kind: u64, bytes: &[u8]) {
         self.words.extend([kind, bytes.len() as u64]);
         self.pool.extend_from_slice(bytes);
@@ -488,6 +499,14 @@ mod tests {
         assert_eq!(sheet.words()[..8], [5, 7, 0, 1, u64::MAX, 2, 3, 3]);
         assert_eq!(sheet.pool(), b"a\0b\x00\xFF");
         assert_eq!(Value::read(sheet.words(), sheet.pool()), Some(value));
+    }
+
+    #[test]
+    fn the_sheet_of_a_record_of_fields_is_the_records() {
+        let fields = [Value::from(b"\x0A"), Value::union(1, Value::from("a")), Value::record([Value::Null, Value::from(b"\x00")])];
+        for k in 0..=fields.len() {
+            assert_eq!(ValueSheet::record(&fields[..k]), Value::record(fields[..k].to_vec()).sheet());
+        }
     }
 
     #[test]

@@ -5,9 +5,9 @@ mod common;
 use common::{Random, count, zeros};
 use std::borrow::Cow;
 use tuple::{
-    Refusal, Type, Value, above_field, bounds, check_key, check_key_counted, compare, decode_key, decode_key_counted, decode_typed,
+    Kind, Refusal, Type, Value, above_field, bounds, check_key, check_key_counted, compare, decode_key, decode_key_counted, decode_typed,
     decode_typed_counted, encode_key, encode_key_counted, encode_typed, encode_typed_counted, get_bytes, get_i64, get_str, get_u64,
-    put_bytes, put_fact_id, put_i64, put_str, put_u64, replace, skip, strinc,
+    put_bytes, put_fact_id, put_i64, put_str, put_u64, replace, skip, span, strinc,
 };
 
 const CASES: usize = 20_000;
@@ -99,6 +99,53 @@ fn bounds_hold_the_keys_with_the_same_first_fields_alone() {
         assert_eq!(bounds(&ty, &key, types.len() + 1), Err(Refusal::NoField));
     }
     assert!(within > CASES && without > CASES / 2, "{within} {without}");
+}
+
+#[test]
+fn a_span_holds_the_keys_with_the_same_first_fields_and_the_next_within_it_alone() {
+    let mut random = Random::new(11);
+    // keys within and without, by what the next field is: a record, a union, another; optional or not
+    let mut seen = [[0; 2]; 6];
+    let (mut upward, mut downward) = (0, 0);
+    for _ in 0..CASES / 5 {
+        let ty = random.record(3);
+        let Type::Record(types) = &ty else { unreachable!() };
+        let a = random.value(&ty);
+        let values: Vec<Value> = (0..8).map(|_| random.near(&ty, &a)).chain([a.clone()]).collect();
+        let keys: Vec<Vec<u8>> = values.iter().map(|value| encode_key(&ty, value).unwrap()).collect();
+        for (k, next) in types.iter().enumerate() {
+            let first = &fields(&a)[..k];
+            let [lowest, highest] = [(); 2].map(|()| random.near(next, &fields(&a)[k]));
+            let range = span(&ty, first, &lowest, &highest).unwrap();
+            let before = encode_key(&Type::Record(types[..k].to_vec()), &Value::Record(first.to_vec())).unwrap();
+            let [low, high] = [&lowest, &highest].map(|value| [&before[..], &encode_typed(next, value).unwrap()].concat());
+            assert_eq!(range, low..above_field(&high));
+
+            let kind = match next.kind() {
+                Kind::Record => 0,
+                Kind::Union => 2,
+                _ => 4,
+            } + usize::from(matches!(next, Type::Optional(_)));
+            for (value, key) in values.iter().zip(&keys) {
+                let field = &fields(value)[k];
+                let held = compare(&lowest, field).unwrap().is_le() && compare(field, &highest).unwrap().is_le();
+                let within = fields(value)[..k] == *first && held;
+                assert_eq!(range.contains(key), within, "{value:?} {first:?} {lowest:?} {highest:?}");
+                seen[kind][usize::from(within)] += 1;
+            }
+            let none = compare(&lowest, &highest).unwrap().is_gt();
+            assert_eq!(range.start > range.end, none);
+            *(if none { &mut downward } else { &mut upward }) += 1;
+
+            let same = &fields(&a)[k];
+            assert_eq!(span(&ty, first, same, same), bounds(&ty, keys.last().unwrap(), k + 1));
+        }
+        assert_eq!(span(&ty, fields(&a), &Value::Null, &Value::Null), Err(Refusal::NoField));
+    }
+    assert!(
+        seen.as_flattened().iter().all(|n| *n > CASES / 50) && upward > downward && downward > CASES / 50,
+        "{seen:?} {upward} {downward}"
+    );
 }
 
 #[test]

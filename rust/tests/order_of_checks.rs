@@ -4,7 +4,7 @@ mod common;
 
 use common::nested;
 use tuple::{
-    FactId, PredicateId, Type, Value, bounds, decode_typed_counted, encode_key, encode_typed, get_bytes, get_str, put_bytes, put_str,
+    FactId, PredicateId, Type, Value, bounds, decode_typed_counted, encode_key, encode_typed, get_bytes, get_str, put_bytes, put_str, span,
 };
 
 /// A refusal as number and detail, or (0, 0).
@@ -114,6 +114,37 @@ fn replacing_and_bounding() {
     assert_eq!(bounds(&tank, &long, 1).unwrap().end.len(), 70_003);
     assert_eq!(said(bounds(&tank, &[0x53, 0x0A, 0x00, 0x48, 0x48], 0)), (2, 0x48)); // the key is decoded with k 0 too
     assert_eq!(bounds(&Type::record([]), &[], 0), Ok(vec![]..vec![0xFF]));
+}
+
+#[test]
+fn spanning() {
+    let tank = Type::record([Type::Bytes, Type::Int]);
+    let (deeper, deep) = nested(321, Type::Int, Value::Int(0));
+    let (tag, zero, text) = (Value::from(b"\x0A"), Value::Int(0), Value::from(""));
+    let spanned = |ty: &Type, first: &[&Value], lowest: &Value, highest: &Value| {
+        let first: Vec<Value> = first.iter().map(|value| (*value).clone()).collect();
+        said(span(ty, &first, lowest, highest))
+    };
+    assert_eq!(spanned(&deeper, &[&deep], &deep, &deep), (15, 0)); // the type, then the values' sheets, then the field
+    assert_eq!(spanned(&Type::Int, &[&deep], &zero, &zero), (16, 0));
+    assert_eq!(spanned(&Type::Int, &[], &deep, &zero), (16, 0));
+    assert_eq!(spanned(&Type::Int, &[], &zero, &deep), (16, 0));
+    assert_eq!(spanned(&Type::Int, &[], &zero, &zero), (18, 0));
+    assert_eq!(spanned(&tank, &[&Value::Null], &zero, &deep), (16, 0)); // every sheet before any value is judged
+    assert_eq!(spanned(&tank, &[&Value::Null, &Value::Null], &Value::Null, &Value::Null), (18, 0)); // and the field
+    assert_eq!(spanned(&tank, &[&Value::Int(1)], &Value::Null, &Value::Null), (11, 3)); // the first fields, the lowest, the highest
+    assert_eq!(spanned(&tank, &[&tag], &Value::Null, &text), (11, 1));
+    assert_eq!(spanned(&tank, &[&tag], &zero, &text), (11, 1));
+
+    let fact = Type::Fact(PredicateId(7));
+    let row = Type::record([Type::Int, fact.clone(), fact]);
+    let [seven, eight, nine] = [7, 8, 9].map(|predicate| Value::from(FactId::new(PredicateId(predicate), 1).unwrap()));
+    assert_eq!(spanned(&row, &[&text, &eight], &nine, &text), (11, 1));
+    assert_eq!(spanned(&row, &[&zero, &eight], &nine, &text), (8, 8));
+    assert_eq!(spanned(&row, &[&zero, &seven], &nine, &text), (8, 9));
+    assert_eq!(spanned(&row, &[&zero, &seven], &seven, &text), (11, 4));
+    assert_eq!(spanned(&row, &[&zero, &seven], &seven, &eight), (8, 8));
+    assert_eq!(spanned(&row, &[&zero, &seven], &seven, &seven), (0, 0));
 }
 
 #[test]

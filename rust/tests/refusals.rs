@@ -6,7 +6,7 @@ mod common;
 use common::nested;
 use tuple::{
     FactId, PredicateId, Refusal, Type, Value, bounds, check_key, check_key_counted, compare, decode_key, decode_key_counted, decode_typed,
-    encode_key, encode_typed, get_bytes, get_i64, get_str, get_u64, replace, skip, strinc,
+    encode_key, encode_typed, get_bytes, get_i64, get_str, get_u64, replace, skip, span, strinc,
 };
 
 fn row<T: std::fmt::Debug>(answer: Result<T, Refusal>, number: u32, name: &str, detail: u64) {
@@ -56,10 +56,15 @@ fn types_and_values_that_are_not_admitted() {
     row(check_key(&deep, &[]), 15, "BadType", 0);
     row(bounds(&deep, &[], 9), 15, "BadType", 0);
     row(replace(&deep, &mut vec![], 9, &Value::Int(0)), 15, "BadType", 0);
+    row(span(&deep, &[], &Value::Int(0), &Value::Int(0)), 15, "BadType", 0);
     row(encode_key(&Type::Int, &value), 16, "BadValue", 0);
     row(encode_typed(&Type::Int, &value), 16, "BadValue", 0);
     row(compare(&Value::Int(0), &value), 16, "BadValue", 0);
     row(replace(&Type::record([Type::Int]), &mut vec![0x48], 0, &value), 16, "BadValue", 0);
+    let pair = Type::record([Type::Int, Type::Int]);
+    row(span(&pair, std::slice::from_ref(&value), &Value::Int(0), &Value::Int(0)), 16, "BadValue", 0);
+    row(span(&pair, &[Value::Int(0)], &value, &Value::Int(0)), 16, "BadValue", 0);
+    row(span(&pair, &[Value::Int(0)], &Value::Int(0), &value), 16, "BadValue", 0);
 
     let (deep, value) = nested(320, Type::Int, Value::Int(0));
     row(encode_key(&deep, &value), 6, "BadRecord", 0); // admitted, and too deep to encode
@@ -83,6 +88,34 @@ fn no_such_field() {
     row(bounds(&tank, &key, 3), 18, "NoField", 0);
     row(bounds(&Type::Int, &[0x48], 0), 18, "NoField", 0);
     row(bounds(&tank, &[], 3), 18, "NoField", 0); // before the key is decoded
+
+    let spanned = |ty: &Type, first: &[Value]| span(ty, first, &Value::Int(40), &Value::Int(60));
+    row(spanned(&tank, &[Value::from(b"\x0A"), Value::Int(7)]), 18, "NoField", 0); // none behind the last
+    row(spanned(&tank, &[Value::from(b"\x0A"), Value::Int(7), Value::Int(8)]), 18, "NoField", 0);
+    row(spanned(&Type::record([]), &[]), 18, "NoField", 0);
+    row(spanned(&Type::Int, &[]), 18, "NoField", 0);
+    row(spanned(&Type::union([(1, Type::Int)]), &[]), 18, "NoField", 0);
+    row(spanned(&Type::optional(Type::record([Type::Int])), &[]), 18, "NoField", 0);
+}
+
+#[test]
+fn a_span_has_the_encoders_refusals_of_each_value() {
+    for (ty, good, bad, number, name, detail) in [
+        (Type::record([Type::Int]), Value::record([Value::Int(0)]), Value::record([]), 6, "BadRecord", 0),
+        (Type::Fact(PredicateId(7)), reference(7), reference(8), 8, "FactRefPredicate", 8),
+        (Type::Fact(PredicateId(7)), reference(7), reserved(7), 9, "ReservedFactId", 0),
+        (Type::union([(1, Type::Int)]), Value::union(1, Value::Int(0)), Value::union(2, Value::Int(0)), 10, "UnknownDiscriminant", 2),
+        (Type::Int, Value::Int(0), Value::Null, 11, "TypeMismatch", 1),
+        (Type::optional(Type::Int), Value::Null, Value::from(""), 11, "TypeMismatch", 1),
+        (Type::union([(1, Type::Int)]), Value::union(1, Value::Int(0)), Value::union(1, Value::Null), 12, "BadUnion", 1),
+    ] {
+        let all = Type::Record(vec![ty; 3]);
+        assert!(span(&all, &[good.clone(), good.clone()], &good, &good).is_ok());
+        row(span(&all, &[bad.clone(), good.clone()], &good, &good), number, name, detail);
+        row(span(&all, &[good.clone(), bad.clone()], &good, &good), number, name, detail);
+        row(span(&all, &[good.clone(), good.clone()], &bad, &good), number, name, detail);
+        row(span(&all, &[good.clone(), good.clone()], &good, &bad), number, name, detail);
+    }
 }
 
 #[test]

@@ -6,7 +6,7 @@ use common::nested;
 use std::cmp::Ordering;
 use tuple::{
     FactId, PredicateId, Refusal, Type, Value, above_field, bounds, compare, decode_key, decode_typed, encode_key, encode_typed, replace,
-    strinc,
+    span, strinc,
 };
 
 /// A specimen's bytes, from hexadecimal.
@@ -68,6 +68,7 @@ fn a_thread_with_256_kb_of_stack_is_enough_for_the_deepest() {
         assert_eq!(bounds(&ty, &key, 1).unwrap().start, key);
         let (_, field) = nested(256, Type::Int, Value::Int(1));
         replace(&ty, &mut key, 0, &field).unwrap();
+        assert_eq!(span(&ty, &[], &field, &field).unwrap().start, key);
         let (ty, value) = nested(320, Type::Int, Value::Int(0));
         assert_eq!(encode_key(&ty, &value), Err(Refusal::BadRecord));
         assert_eq!(compare(&value, &value), Ok(Ordering::Equal));
