@@ -1,8 +1,9 @@
-/* A tank's key, the zeros escaped in it, and the ends of the range that holds this tank's keys alone.
+/* A tank's key, the zeros escaped in it, the ends of the range that holds this tank's keys alone, and those of the batches 40 to 60 of the tank beside it.
  * cc -I include examples/tank.c target/staticlib/libtuple.a -o target/tank && target/tank */
 #include "tuple.h"
 #include <inttypes.h>
 #include <stdio.h>
+#include <string.h>
 
 static void line(const char *name, const uint8_t *bytes, uint64_t n) {
     printf("%-6s", name);
@@ -10,6 +11,12 @@ static void line(const char *name, const uint8_t *bytes, uint64_t n) {
         printf(" %02X", bytes[i]);
     }
     printf("\n");
+}
+
+/* whether a is below b, by plain byte order */
+static bool below(const uint8_t *a, uint64_t n, const uint8_t *b, uint64_t m) {
+    int order = memcmp(a, b, n < m ? n : m);
+    return order < 0 || (order == 0 && n < m);
 }
 
 int main(void) {
@@ -28,5 +35,18 @@ int main(void) {
     tuple_ends ends = tuple_bounds(type, 4, key, written.length, 1, lower, sizeof lower, upper, sizeof upper);
     line("from", lower, ends.lower);
     line("up to", upper, ends.upper);
+
+    /* the batches 40 to 60 of tank 0A, and whether batch 50 of each tank is among them */
+    const uint64_t first[] = {5, 1, 3, 1}, lowest[] = {1, 40}, highest[] = {1, 60};
+    ends = tuple_span(type, 4, first, 4, pool, 1, lowest, 2, NULL, 0, highest, 2, NULL, 0, lower, sizeof lower, upper, sizeof upper);
+    line("span", lower, ends.lower);
+    line("up to", upper, ends.upper);
+    for (uint64_t n = 1; n <= 2; n++) {
+        const uint64_t batch[] = {5, 2, 3, n, 1, 50};
+        written = tuple_encode_key(type, 4, batch, 6, pool, n, key, sizeof key);
+        line("key", key, written.length);
+        bool inside = !below(key, written.length, lower, ends.lower) && below(key, written.length, upper, ends.upper);
+        printf("inside %s\n", inside ? "yes" : "no");
+    }
     return (int)ends.refusal;
 }

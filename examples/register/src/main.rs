@@ -1,6 +1,7 @@
 //! The register in a real ordered store: tanks, batches, recipe lines and doses as keys in LevelDB. It shows how a search that ends at strinc loses a batch
 //! and one by the bounds call does not, replaces fields in stored keys, finds the recipe lines without a supplier's lot, checks that the store's order is the order
-//! of the values, counts the rows that a search for a prefix reads by its upper end, and lists tank tags by the zeros escaped in their keys.
+//! of the values, counts the rows that a search for a prefix reads by its upper end, lists tank tags by the zeros escaped in their keys, and finds the batches
+//! of a tank from a number to another and other spans on one field.
 
 mod leveldb;
 mod tables;
@@ -51,6 +52,9 @@ const LOTS: [(Option<&str>, &str, i64); 7] = [
     (Some("S-170"), "black", 1),
     (None, "black", 2),
 ];
+
+/// Batches that planners look up by tank and number.
+const ASKED: [(&[u8], &[i64]); 2] = [(b"\x0A", &[39, 40, 50, 60, 61]), (b"\x0A\x00", &[39, 40, 45, 60, 61])];
 
 /// The checks made, and how many failed.
 #[derive(Default)]
@@ -520,6 +524,78 @@ fn by_zeros(store: &Store, tables: &Tables, checks: &mut Checks) -> Answer<()> {
     Ok(())
 }
 
+/// What a span on the next field finds, whether reading all and comparing the values finds the same, and how many more there are up to strinc of the highest.
+fn spanned(store: &Store, table: &Table, first: &[Value], lowest: &Value, highest: &Value) -> Answer<(Vec<Value>, bool, usize)> {
+    let (k, mut due) = (first.len(), Vec::new());
+    for value in found(store, table, &table.whole())? {
+        let next = field(&value, k);
+        if fields(&value)[..k] == *first && compare(lowest, next)?.is_le() && compare(next, highest)?.is_le() {
+            due.push(value);
+        }
+    }
+    let found = found(store, table, &table.span(first, lowest, highest)?)?;
+    let reads = store.scan(&table.span_by_strinc(first, lowest, highest)?)?.len();
+    let (same, more) = (found == due, reads.checked_sub(found.len()).ok_or("strinc of the highest is below the span's end")?);
+    Ok((found, same, more))
+}
+
+/// The batches from a number to another of two tanks, as planners ask for them; then spans on fields of other kinds.
+fn spans(store: &Store, tables: &Tables, batches: &BTreeMap<FactId, Value>, checks: &mut Checks) -> Answer<()> {
+    let asked = ASKED.iter().flat_map(|(tag, numbers)| numbers.iter().map(|number| batch(tag, *number)));
+    let changes: Answer<Vec<Change>> = asked.map(|value| Ok(Change::Put(tables.batches.stored(&value)?, vec![]))).collect();
+    store.write(&changes?)?;
+
+    let mut rows = Vec::new();
+    for (tag, lowest, highest) in [(&b"\x0A"[..], 40, 60), (b"\x0A\x00", 40, 60), (b"\x0A", 61, 256), (b"\x0A", 60, 40)] {
+        let (first, lowest, highest) = ([Value::from(tag)], Value::Int(lowest), Value::Int(highest));
+        let ends = tables.batches.span(&first, &lowest, &highest)?;
+        let (found, same, more) = spanned(store, &tables.batches, &first, &lowest, &highest)?;
+        rows.push(vec![
+            hex(tag),
+            shown(&lowest),
+            shown(&highest),
+            hex(&ends.start[4..]),
+            hex(&ends.end[4..]),
+            if found.is_empty() { "none".to_owned() } else { told(tag, &found) },
+            checks.yes(same).to_owned(),
+            more.to_string(),
+        ]);
+    }
+    table(
+        "10. The batches of a tank from a number to another, by the span call",
+        &["tank", "from", "to", "lower end", "upper end", "finds", "as by reading all", "more by strinc"],
+        &rows,
+    );
+
+    let (cyan, _) = batches.iter().find(|(_, value)| **value == batch(b"\x0A\x00", 18)).ok_or("batch 18 is missing")?;
+    let dosed = [Value::from(*cyan), Value::from("cyan")];
+    let (second, nameless) = ([Value::from("cyan"), Value::Int(2)], [Value::from(""), Value::Int(1)]);
+    let part = |tag: &[u8], grams| Value::record([Value::from(tag), Value::Int(grams)]);
+    let (grams, note) = (|number| Value::union(1, Value::Int(number)), |text: &str| Value::union(2, Value::from(text)));
+    let tag = Value::from(b"\x0A");
+    let mut rows = Vec::new();
+    for (what, table, first, lowest, highest) in [
+        ("the batches of tank 0A", &tables.batches, &[][..], tag.clone(), tag.clone()),
+        ("the tanks from 0A to 0A FF", &tables.tanks, &[], tag, Value::from(b"\x0A\xFF")),
+        ("recipe lines without a lot", &tables.lots, &[], Value::Null, Value::Null),
+        ("those, and lots up to S-17", &tables.lots, &[], Value::Null, Value::from("S-17")),
+        ("line 2 of cyan, up to 256 g into tank 0C 00", &tables.lines, &second, part(b"", 0), part(b"\x0C\x00", 256)),
+        ("line 1 without a recipe, up to 0 g into tank 0A FF", &tables.lines, &nameless, part(b"", 0), part(b"\x0A\xFF", 0)),
+        ("doses of cyan into its batch, up to 1000 g", &tables.doses, &dosed, grams(0), grams(1_000)),
+        ("those, more grams, and notes up to c", &tables.doses, &dosed, grams(0), note("c")),
+    ] {
+        let (found, same, more) = spanned(store, table, first, &lowest, &highest)?;
+        let right = checks.yes(same).to_owned();
+        rows.push(vec![what.to_owned(), table.name.to_owned(), first.len().to_string(), found.len().to_string(), right, more.to_string()]);
+    }
+    table(
+        "11. Spans on fields of other kinds: strinc of the highest takes in the tags that go on with a zero",
+        &["what", "table", "k", "keys", "as by reading all", "more by strinc"],
+        &rows,
+    );
+    Ok(())
+}
+
 fn run(folder: &Path) -> Answer<Checks> {
     let (tables, mut random, mut checks) = (Tables::new(), Random(7), Checks::default());
     let store = Store::create(folder)?;
@@ -535,6 +611,7 @@ fn run(folder: &Path) -> Answer<Checks> {
     every_tank(&store, &tables, &mut checks)?;
     planned(&store, &tables, &mut checks)?;
     by_zeros(&store, &tables, &mut checks)?;
+    spans(&store, &tables, &batches, &mut checks)?;
     Ok(checks)
 }
 

@@ -1,7 +1,7 @@
 //! The register's five tables: the type of each one's keys, and where they stand in the store.
 
 use std::ops::Range;
-use tuple::{FactId, PredicateId, Refusal, Type, Value, bounds, decode_key, encode_key, strinc};
+use tuple::{FactId, PredicateId, Refusal, Type, Value, bounds, decode_key, encode_key, span, strinc};
 
 /// A table: its predicate's number and the type of its keys. A stored key is the number in four bytes, high byte first, and the key behind it.
 pub struct Table {
@@ -75,6 +75,19 @@ impl Table {
     pub fn range_by_strinc(&self, value: &Value, k: usize) -> Result<Range<Vec<u8>>, Refusal> {
         let start = self.range(value, k)?.start;
         let end = strinc(&start)?;
+        Ok(start..end)
+    }
+
+    /// Where the keys stand that have these first fields and the next from the lowest to the highest: the span call.
+    pub fn span(&self, first: &[Value], lowest: &Value, highest: &Value) -> Result<Range<Vec<u8>>, Refusal> {
+        let ends = span(&self.ty, first, lowest, highest)?;
+        Ok(self.behind(ends.start)..self.behind(ends.end))
+    }
+
+    /// The same with the next string after the highest as its end, which takes in more where that is a tag.
+    pub fn span_by_strinc(&self, first: &[Value], lowest: &Value, highest: &Value) -> Result<Range<Vec<u8>>, Refusal> {
+        let start = self.span(first, lowest, highest)?.start;
+        let end = strinc(&self.span(first, highest, highest)?.start)?;
         Ok(start..end)
     }
 
