@@ -361,3 +361,47 @@ pub fn damage(random: &mut Random, bytes: &mut Vec<u8>) {
         }
     }
 }
+
+/// A value of the type near another of it in the order: a number's neighbour, a payload with a telling byte more or one fewer, another
+/// alternative, a Null or none.
+pub fn near(random: &mut Random, ty: &Ty, val: &Val) -> Val {
+    match (ty, val) {
+        (Ty::Optional(behind), Val::Null) => fitting(random, behind),
+        (Ty::Optional(_), _) if random.one_in(5) => Val::Null,
+        (Ty::Optional(behind), _) => near(random, behind, val),
+        (_, Val::Int(word)) => Val::Int(word.wrapping_add(random.pick(&[1, u64::MAX, 255, 1 << 63]))),
+        (_, Val::Str(text)) => {
+            let mut text = text.clone();
+            match (random.below(4), std::str::from_utf8(&text).ok().and_then(|text| text.char_indices().last())) {
+                (0, Some((at, _))) => text.truncate(at),
+                (1, _) => text.push(b'a'),
+                (2, _) => text.extend("\u{10FFFF}".bytes()),
+                _ => text.push(0),
+            }
+            Val::Str(text)
+        }
+        (_, Val::Bytes(payload)) => {
+            let mut payload = payload.clone();
+            match random.below(4) {
+                0 => drop(payload.pop()),
+                1 => payload.push(random.pick(&[0x01, 0xFF])),
+                2 if !payload.is_empty() => *payload.last_mut().expect("it has one") ^= random.pick(&[0x01, 0xFF]),
+                _ => payload.push(0),
+            }
+            Val::Bytes(payload)
+        }
+        (Ty::Record(types), Val::Record(fields)) if !fields.is_empty() && types.len() == fields.len() => {
+            let mut fields = fields.clone();
+            let at = random.below(fields.len());
+            fields[at] = near(random, &types[at], &fields[at]);
+            Val::Record(fields)
+        }
+        (Ty::Union(alternatives), Val::Union(disc, payload)) if !random.one_in(3) => {
+            match alternatives.iter().find(|(of, _)| u64::from(*of) == *disc) {
+                Some((_, ty)) => Val::Union(*disc, Box::new(near(random, ty, payload))),
+                None => fitting(random, ty),
+            }
+        }
+        _ => fitting(random, ty),
+    }
+}

@@ -41,7 +41,7 @@ impl Shrinker<'_> {
     /// Long payloads in order, which a line shows as a few repetitions.
     fn plain_payloads(&mut self) {
         let mut sorted = self.call.clone();
-        [&mut sorted.pool, &mut sorted.other_pool].into_iter().for_each(|pool| pool.sort_unstable());
+        [&mut sorted.pool, &mut sorted.other_pool, &mut sorted.third_pool].into_iter().for_each(|pool| pool.sort_unstable());
         self.accepts(sorted);
         let mut sorted = self.call.clone();
         sorted.bytes.sort_unstable();
@@ -74,6 +74,11 @@ impl Shrinker<'_> {
     fn trees_cut(&mut self) -> bool {
         let call = &self.call;
         let values = if self.takes(Argument::Words) { smaller_values(&call.words, &call.pool) } else { vec![] };
+        let mut ends = vec![];
+        if self.takes(Argument::ThirdWords) {
+            ends.extend(smaller_values(&call.other_words, &call.other_pool));
+            ends.extend(smaller_values(&call.third_words, &call.third_pool));
+        }
         let mut starts = vec![(call.clone(), false)];
         if self.takes(Argument::Type) {
             for ty in smaller_types(&call.ty) {
@@ -92,6 +97,15 @@ impl Shrinker<'_> {
             }
             for (words, pool) in &values {
                 if !self.over() && self.accepts(Call { words: words.clone(), pool: pool.clone(), ..start.clone() }) {
+                    return true;
+                }
+            }
+            // the two ends of a span have one type: both, or one of them
+            for (words, pool) in &ends {
+                let low = Call { other_words: words.clone(), other_pool: pool.clone(), ..start.clone() };
+                let high = Call { third_words: words.clone(), third_pool: pool.clone(), ..start.clone() };
+                let both = Call { third_words: words.clone(), third_pool: pool.clone(), ..low.clone() };
+                if !self.over() && (self.accepts(both) || self.accepts(low) || self.accepts(high)) {
                     return true;
                 }
             }
@@ -125,6 +139,8 @@ fn list_len(call: &Call, argument: Argument) -> usize {
         Argument::Pool => call.pool.len(),
         Argument::OtherWords => call.other_words.len(),
         Argument::OtherPool => call.other_pool.len(),
+        Argument::ThirdWords => call.third_words.len(),
+        Argument::ThirdPool => call.third_pool.len(),
         Argument::Bytes => call.bytes.len(),
         Argument::Number(_) | Argument::Room(_) => 0,
     }
@@ -138,6 +154,8 @@ fn without(call: &Call, argument: Argument, from: usize, to: usize) -> Call {
         Argument::Pool => drop(smaller.pool.drain(from..to)),
         Argument::OtherWords => drop(smaller.other_words.drain(from..to)),
         Argument::OtherPool => drop(smaller.other_pool.drain(from..to)),
+        Argument::ThirdWords => drop(smaller.third_words.drain(from..to)),
+        Argument::ThirdPool => drop(smaller.third_pool.drain(from..to)),
         Argument::Bytes => {
             smaller.bytes.drain(from..to);
             if call.kind == Kind::Replace {
@@ -162,6 +180,8 @@ fn lowered(call: &Call, argument: Argument, place: usize) -> Vec<Call> {
         Argument::Pool => call.pool.get(place).map(|byte| u64::from(*byte)),
         Argument::OtherWords => call.other_words.get(place).copied(),
         Argument::OtherPool => call.other_pool.get(place).map(|byte| u64::from(*byte)),
+        Argument::ThirdWords => call.third_words.get(place).copied(),
+        Argument::ThirdPool => call.third_pool.get(place).map(|byte| u64::from(*byte)),
         Argument::Bytes => call.bytes.get(place).map(|byte| u64::from(*byte)),
         Argument::Number(i) => Some(call.numbers[i]),
         Argument::Room(_) => None,
@@ -177,6 +197,8 @@ fn lowered(call: &Call, argument: Argument, place: usize) -> Vec<Call> {
                 Argument::Pool => smaller.pool[place] = lower as u8,
                 Argument::OtherWords => smaller.other_words[place] = lower,
                 Argument::OtherPool => smaller.other_pool[place] = lower as u8,
+                Argument::ThirdWords => smaller.third_words[place] = lower,
+                Argument::ThirdPool => smaller.third_pool[place] = lower as u8,
                 Argument::Bytes => smaller.bytes[place] = lower as u8,
                 Argument::Number(i) => smaller.numbers[i] = lower,
                 Argument::Room(_) => {}

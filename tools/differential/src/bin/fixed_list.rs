@@ -70,6 +70,7 @@ fn refusals(kind: Kind) -> &'static [u32] {
         Strinc => &[0, 17, 19],
         AboveField => &[0, 17],
         Bounds => &[0, 1, 2, 4, 5, 6, 8, 9, 10, 13, 14, 15, 17, 18],
+        Span => &[0, 6, 8, 9, 10, 11, 12, 15, 16, 17, 18],
         Replace => &[0, 1, 2, 4, 5, 6, 7, 8, 9, 10, 11, 12, 13, 14, 15, 16, 17, 18],
         GetI64 | TakeI64 => &[0, 1, 2, 5, 13, 14],
         GetU64 | TakeU64 => &[0, 1, 2, 5],
@@ -153,6 +154,7 @@ fn room_class(room: usize, needed: usize) -> u64 {
 
 /// One number for all that tells two lines of the same refusal and detail apart.
 fn shape_class(call: &Call, answer: &Answer, outcome: &Outcome) -> u64 {
+    let third = [bytes_class(&call.other_pool), words_class(call.third_words.iter().copied()), bytes_class(&call.third_pool)];
     let lists = [
         words_class(call.ty.iter().map(|word| u64::from(*word))),
         words_class(call.words.iter().copied()),
@@ -165,6 +167,7 @@ fn shape_class(call: &Call, answer: &Answer, outcome: &Outcome) -> u64 {
     let numbers = call.numbers.into_iter().chain(answer.numbers).map(number_class);
     lists
         .into_iter()
+        .chain(if call.kind == Kind::Span { third } else { [0; 3] })
         .chain(numbers)
         .fold(0xCBF2_9CE4_8422_2325, |mixed: u64, class| (mixed ^ class).wrapping_mul(0x100_0000_01B3).rotate_left(17))
 }
@@ -186,17 +189,21 @@ struct Chooser {
 }
 
 fn elements(call: &Call) -> usize {
-    call.ty.len() + call.words.len() + call.pool.len() + call.other_words.len() + call.other_pool.len() + call.bytes.len()
+    let sheets = call.words.len() + call.pool.len() + call.other_words.len() + call.other_pool.len() + call.third_words.len();
+    call.ty.len() + sheets + call.third_pool.len() + call.bytes.len()
 }
 
 impl Chooser {
     fn is_large(&self, call: &Call) -> bool {
         let outcome = &self.oracle.outcome;
         call.ty.len() > MOST_TYPE_WORDS
-            || [call.words.len(), call.other_words.len(), outcome.words.len()].into_iter().any(|len| len > MOST_WORDS)
+            || [call.words.len(), call.other_words.len(), call.third_words.len(), outcome.words.len()]
+                .into_iter()
+                .any(|len| len > MOST_WORDS)
             || [
                 call.pool.len(),
                 call.other_pool.len(),
+                call.third_pool.len(),
                 call.bytes.len(),
                 outcome.bytes.len(),
                 outcome.pool.len(),
@@ -329,6 +336,7 @@ fn run_families(chooser: &mut Chooser, options: &Options) {
             ("lengths", _) => options.inputs / 20,
             ("bytes3" | "types5" | "steps2" | "places" | "copies", _) => options.inputs / 50,
             ("optional5", _) => options.inputs / 100,
+            ("spans5", _) => options.inputs / 8,
             ("depths" | "counts" | "optdepths", _) => options.inputs / 4,
             _ => options.inputs,
         };
@@ -369,14 +377,18 @@ fn run(options: Options) -> ExitCode {
         }
     }
     run_families(&mut chooser, &options);
+    // a span's refusals are for the most part those of encoding, which have lines of their own
+    let halved = |kind: Kind| kind == Kind::Span && !options.large;
     let per = if options.large { LARGE_PER } else { options.per };
     for (call, sorts) in chooser.chosen {
         // an accepted call tells most
         let per = if call.1 == 0 { 2 * per } else { per };
+        let per = if halved(call.0) { per / 2 } else { per };
         lines.entry(call).or_default().extend(choose(sorts, per));
     }
     for (call, sorts) in chooser.optional {
         let per = if call.1 == 0 { per } else { per / 3 };
+        let per = if halved(call.0) { per / 2 } else { per };
         lines.entry(call).or_default().extend(choose(sorts, per));
     }
 

@@ -258,7 +258,7 @@ pub fn depths(work: &mut Work, _input: u64, sink: &mut dyn Sink) {
 
 /// How the groups of a chain follow one another.
 #[derive(Clone, Copy)]
-enum Chain {
+pub(super) enum Chain {
     Records,
     Unions,
     Turns,
@@ -268,7 +268,7 @@ enum Chain {
 }
 
 /// A type and its value inside one more group.
-fn wrapped(random: &mut Random, chain: Chain, group: usize, ty: Ty, val: Val) -> (Ty, Val) {
+pub(super) fn wrapped(random: &mut Random, chain: Chain, group: usize, ty: Ty, val: Val) -> (Ty, Val) {
     let union = match chain {
         Chain::Records => false,
         Chain::Unions => true,
@@ -536,6 +536,17 @@ fn long_values(work: &mut Work, sink: &mut dyn Sink) {
         work.call.other_words[1] -= 1;
     }
     work.send(Kind::Compare, sink);
+
+    // as each sheet of a span
+    work.call.ty = vec![5, 1, 1];
+    work.set_third(&Val::Int(0));
+    work.send(Kind::Span, sink);
+    work.set_value(&Val::Record(vec![]));
+    work.send(Kind::Span, sink);
+    work.call.third_words = std::mem::take(&mut work.call.other_words);
+    work.set_other(&Val::Int(0));
+    work.send(Kind::Span, sink);
+    work.call.third_words.clear();
 }
 
 fn large_pools(work: &mut Work, sink: &mut dyn Sink) {
@@ -557,6 +568,18 @@ fn large_pools(work: &mut Work, sink: &mut dyn Sink) {
     work.call.other_words.clone_from(&work.call.words);
     work.call.other_pool.clone_from(&work.call.pool);
     work.send(Kind::Compare, sink);
+
+    // as all three sheets of a span, each of which has the limit for itself, and as one
+    let [int, kind] = [1, work.call.ty[0]];
+    work.call.third_words.clone_from(&work.call.words);
+    work.call.third_pool.clone_from(&work.call.pool);
+    work.call.words = vec![5, 1, u64::from(kind), len as u64];
+    work.call.ty = vec![5, 2, kind, kind];
+    work.send(Kind::Span, sink);
+    work.set_other(&Val::Int(0));
+    work.set_third(&Val::Int(0));
+    work.call.ty = vec![5, 2, kind, int];
+    work.send(Kind::Span, sink);
 }
 
 /// The changed record is no sheet: it may pass the limits through the new value.

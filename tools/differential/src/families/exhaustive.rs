@@ -131,7 +131,7 @@ pub fn copies(work: &mut Work, input: u64, sink: &mut dyn Sink) {
 /// The words that small sheets are made of: 0 to 7.
 const ALPHABET: u64 = 8;
 
-const fn sheets_up_to(words: u32) -> u64 {
+pub(super) const fn sheets_up_to(words: u32) -> u64 {
     let (mut total, mut length) = (0, 0);
     while length <= words {
         total += ALPHABET.pow(length);
@@ -150,7 +150,7 @@ fn sheet(mut number: u64) -> Vec<u64> {
     (0..length).rev().map(|place| number / ALPHABET.pow(place) % ALPHABET).collect()
 }
 
-fn type_sheet(number: u64) -> Vec<u32> {
+pub(super) fn type_sheet(number: u64) -> Vec<u32> {
     sheet(number).into_iter().map(|word| word as u32).collect()
 }
 

@@ -4,6 +4,7 @@ mod boundary;
 mod exhaustive;
 mod keys;
 mod optional;
+mod spans;
 mod steps;
 mod typed;
 
@@ -182,6 +183,20 @@ pub const FAMILIES: &[Family] = &[
         chunk: 32,
         run: steps::cursors,
     },
+    Family {
+        name: "spans5",
+        about: "spans: every type sheet of up to 5 words over 0 to 7 and longer telling ones, with short sheets for first, lowest and highest",
+        inputs: Some(spans::SPANS5_INPUTS),
+        chunk: 16,
+        run: spans::spans5,
+    },
+    Family {
+        name: "spans",
+        about: "spans of random types, good, near and ill-formed in each sheet, of every count of fields, deep, long and wide",
+        inputs: None,
+        chunk: 32,
+        run: spans::spans,
+    },
 ];
 
 // ---- helpers of the families
@@ -218,6 +233,12 @@ impl Work {
         self.call.other_words.clear();
         self.call.other_pool.clear();
         val.write_sheet(&mut self.call.other_words, &mut self.call.other_pool);
+    }
+
+    fn set_third(&mut self, val: &Val) {
+        self.call.third_words.clear();
+        self.call.third_pool.clear();
+        val.write_sheet(&mut self.call.third_words, &mut self.call.third_pool);
     }
 
     fn set_bytes(&mut self, bytes: &[u8]) {

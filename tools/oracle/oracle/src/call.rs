@@ -13,6 +13,7 @@ pub enum Kind {
     Strinc,
     AboveField,
     Bounds,
+    Span,
     Replace,
     GetI64,
     GetU64,
@@ -44,7 +45,7 @@ pub enum Kind {
 
 use Kind::*;
 
-pub const KINDS: [Kind; 37] = [
+pub const KINDS: [Kind; 38] = [
     EncodeTyped,
     EncodeKey,
     DecodeTyped,
@@ -55,6 +56,7 @@ pub const KINDS: [Kind; 37] = [
     Strinc,
     AboveField,
     Bounds,
+    Span,
     Replace,
     GetI64,
     GetU64,
@@ -92,6 +94,8 @@ pub enum Argument {
     Pool,
     OtherWords,
     OtherPool,
+    ThirdWords,
+    ThirdPool,
     Bytes,
     Number(usize),
     Room(usize),
@@ -131,6 +135,8 @@ pub struct Call {
     pub pool: Vec<u8>,
     pub other_words: Vec<u64>,
     pub other_pool: Vec<u8>,
+    pub third_words: Vec<u64>,
+    pub third_pool: Vec<u8>,
     pub bytes: Vec<u8>,
     pub numbers: [u64; 3],
     pub rooms: [usize; 2],
@@ -145,6 +151,8 @@ impl Call {
             pool: Vec::new(),
             other_words: Vec::new(),
             other_pool: Vec::new(),
+            third_words: Vec::new(),
+            third_pool: Vec::new(),
             bytes: Vec::new(),
             numbers: [0; 3],
             rooms: [0; 2],
@@ -181,6 +189,13 @@ impl Kind {
             Strinc => shape!("strinc", "order", [Bytes, Room(0)], ["length"], [Bytes]),
             AboveField => shape!("above_field", "order", [Bytes, Room(0)], ["length"], [Bytes]),
             Bounds => shape!("bounds", "keys", [Type, Bytes, Number(0), Room(0), Room(1)], ["lower", "upper"], [Bytes, Pool]),
+            Span => shape!(
+                "span",
+                "keys",
+                [Type, Words, Pool, OtherWords, OtherPool, ThirdWords, ThirdPool, Room(0), Room(1)],
+                ["lower", "upper"],
+                [Bytes, Pool]
+            ),
             Replace => shape!("replace", "keys", [Type, Bytes, Number(0), Number(1), Words, Pool], ["length"], [Whole]),
             GetI64 => shape!("get_i64", "scalars", [Bytes], ["value", "used"], []),
             GetU64 => shape!("get_u64", "scalars", [Bytes], ["value", "used"], []),

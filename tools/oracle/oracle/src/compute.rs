@@ -7,7 +7,7 @@ use crate::sheet::{admit_value, write_sheet};
 use crate::steps::{self, Char, Moved, Payload};
 use fjord_encoding::tuple::{self, MARK_STRING, Value};
 use fjord_schema::id::FactId;
-use fjord_schema::schema::{LocalInterner, SchemaInterner};
+use fjord_schema::schema::{LocalInterner, NAME, SchemaInterner};
 use std::borrow::Cow;
 use std::cmp::Ordering;
 
@@ -141,6 +141,7 @@ impl Oracle {
             Strinc => self.writes(tuple::strinc(&call.bytes).ok_or((NO_BOUND, 0))),
             AboveField => self.writes(Ok(tuple::above_field(&call.bytes))),
             Bounds => self.bounds(call),
+            Span => self.span(call),
             Replace => self.replace(call),
             GetI64 => by_original(tuple::get_i64(&call.bytes)).map(|(int, used)| answered(&[int as u64, used as u64])),
             GetU64 => by_original(tuple::get_u64(&call.bytes)).map(|(number, used)| answered(&[number, used as u64])),
@@ -234,6 +235,25 @@ impl Oracle {
         let fields = fields_of(ty.decode_key(&self.interner, &call.bytes).0?);
         self.outcome.bytes = ty.first_fields(&fields, k as usize).expect("a decoded field encodes");
         self.outcome.pool = tuple::above_field(&self.outcome.bytes);
+        Ok(answered(&[self.outcome.bytes.len() as u64, self.outcome.pool.len() as u64]))
+    }
+
+    /// The first values and one more behind them, bare at depth 0: the lowest, and the highest with FF. An end is no key, and has no limit.
+    fn span(&mut self, call: &Call) -> Result<Answer, Refusal> {
+        let ty = self.ty(&call.ty)?;
+        let Some(Value::Record(first)) = admit_value(&call.words, &call.pool) else { return Err((BAD_VALUE, 0)) };
+        let lowest = admit_value(&call.other_words, &call.other_pool).ok_or((BAD_VALUE, 0))?;
+        let highest = admit_value(&call.third_words, &call.third_pool).ok_or((BAD_VALUE, 0))?;
+        if first.len() >= field_types(&ty)? {
+            return Err((NO_FIELD, 0));
+        }
+        let mut fields = first.into_vec();
+        let k = fields.len();
+        fields.push((NAME.to_owned(), lowest));
+        let lower = ty.first_fields(&fields, k + 1)?;
+        fields[k].1 = highest;
+        self.outcome.pool = tuple::above_field(&ty.first_fields(&fields, k + 1)?);
+        self.outcome.bytes = lower;
         Ok(answered(&[self.outcome.bytes.len() as u64, self.outcome.pool.len() as u64]))
     }
 

@@ -61,6 +61,11 @@ fn of_sheet(sheet: Sheet) -> Answer {
     answer(sheet.refusal, sheet.detail, &[sheet.begun, sheet.words, sheet.pool])
 }
 
+#[cfg(feature = "keys")]
+fn of_ends(ends: Ends) -> Answer {
+    answer(ends.refusal, ends.detail, &[ends.lower, ends.upper])
+}
+
 #[cfg(any(feature = "scalars", feature = "cursors"))]
 fn of_number(number: Number) -> Answer {
     answer(number.refusal, number.detail, &[number.value, number.used])
@@ -103,11 +108,14 @@ impl Ours {
         let (pool, pool_len) = (call.pool.as_ptr(), call.pool.len());
         let (other_words, other_words_len) = (call.other_words.as_ptr(), call.other_words.len());
         let (other_pool, other_pool_len) = (call.other_pool.as_ptr(), call.other_pool.len());
+        let (third_words, third_words_len) = (call.third_words.as_ptr(), call.third_words.len());
+        let (third_pool, third_pool_len) = (call.third_pool.as_ptr(), call.third_pool.len());
         let (bytes, bytes_len) = (call.bytes.as_ptr(), call.bytes.len());
         let [first, second, third] = call.numbers;
         let [room, other_room] = call.rooms;
         // used by the parts that are built
         let _ = (ty, ty_len, words, words_len, pool, pool_len, other_words, other_words_len, other_pool, other_pool_len);
+        let _ = (third_words, third_words_len, third_pool, third_pool_len);
         let _ = (bytes, bytes_len, first, second, third, room, other_room);
         // SAFETY: every pointer comes with the length of its slice, and the lent buffers with the length lent.
         unsafe {
@@ -141,8 +149,31 @@ impl Ours {
                 #[cfg(feature = "keys")]
                 Bounds => {
                     let (lower, upper) = (self.bytes.lend(room), self.pool.lend(other_room));
-                    let ends = tuple_bounds(ty, ty_len, bytes, bytes_len, first as usize, lower, room, upper, other_room);
-                    answer(ends.refusal, ends.detail, &[ends.lower, ends.upper])
+                    of_ends(tuple_bounds(ty, ty_len, bytes, bytes_len, first as usize, lower, room, upper, other_room))
+                }
+                #[cfg(feature = "keys")]
+                Span => {
+                    let (lower, upper) = (self.bytes.lend(room), self.pool.lend(other_room));
+                    of_ends(tuple_span(
+                        ty,
+                        ty_len,
+                        words,
+                        words_len,
+                        pool,
+                        pool_len,
+                        other_words,
+                        other_words_len,
+                        other_pool,
+                        other_pool_len,
+                        third_words,
+                        third_words_len,
+                        third_pool,
+                        third_pool_len,
+                        lower,
+                        room,
+                        upper,
+                        other_room,
+                    ))
                 }
                 #[cfg(feature = "keys")]
                 Replace => {
@@ -279,7 +310,7 @@ impl Ours {
             | IsRecordEnd | CharsNext => true,
             Chars | Names => !accepted || self.codes == words,
             DecodeTyped | DecodeKey => self.words.holds(room, 0, words) & self.pool.holds(other_room, 0, pool),
-            Bounds => self.bytes.holds(room, 0, bytes) & self.pool.holds(other_room, 0, pool),
+            Bounds | Span => self.bytes.holds(room, 0, bytes) & self.pool.holds(other_room, 0, pool),
             Replace => self.bytes.filled_with(bytes, &call.bytes[bytes.len()..]),
             _ => self.bytes.holds(room, outcome.at, bytes),
         }
@@ -300,7 +331,7 @@ impl Ours {
                 outcome.words = self.words.held(0, number(1).min(room)).to_vec();
                 outcome.pool = self.pool.held(0, number(2).min(other_room)).to_vec();
             }
-            Kind::Bounds => {
+            Kind::Bounds | Kind::Span => {
                 outcome.bytes = self.bytes.held(0, number(0).min(room)).to_vec();
                 outcome.pool = self.pool.held(0, number(1).min(other_room)).to_vec();
             }
