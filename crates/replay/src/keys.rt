@@ -1,6 +1,6 @@
 // skip: bytes start flag = refusal detail end. compare: words pool words pool = refusal detail order. strinc, above_field: bytes room = refusal detail
-// length bytes. bounds: type key k room-of-lower room-of-upper = refusal detail lengths ends. replace: type buffer used field words pool = refusal detail
-// length buffer.
+// length bytes. bounds: type key k room-of-lower room-of-upper = refusal detail lengths ends. span: type, words and pool of the first values, of the lowest
+// and of the highest, room-of-lower room-of-upper = refusal detail lengths ends. replace: type buffer used field words pool = refusal detail length buffer.
 use crate::answers;
 use tuple::answers::Ends;
 use tuple::answers::Order;
@@ -53,10 +53,22 @@ pub fn end(line: &[u8], above: bool, bytes: &[u8]) -> bool {
     answers::wrote(line, 4, a, 0, &out)
 }
 
-fn bounded(line: &[u8], a: Ends, lower: &[u8; 72000], upper: &[u8; 72000]) -> bool {
-    lines::are_decimals(line, 7, &[a.refusal as u64, a.detail, a.lower, a.upper])
-        & answers::written(line, 11, 0, a.lower as usize, lower)
-        & answers::written(line, 12, 0, a.upper as usize, upper)
+fn bounded(line: &[u8], first: usize, a: Ends, lower: &[u8; 72000], upper: &[u8; 72000]) -> bool {
+    lines::are_decimals(line, first, &[a.refusal as u64, a.detail, a.lower, a.upper])
+        & answers::written(
+            line,
+            std::num::wrapping_add_usize(first, 4),
+            0,
+            a.lower as usize,
+            lower,
+        )
+        & answers::written(
+            line,
+            std::num::wrapping_add_usize(first, 5),
+            0,
+            a.upper as usize,
+            upper,
+        )
 }
 
 pub fn bounds(line: &[u8], ty: &[u32], key: &[u8]) -> bool {
@@ -71,7 +83,76 @@ pub fn bounds(line: &[u8], ty: &[u32], key: &[u8]) -> bool {
         &mut lower[..low],
         &mut upper[..high],
     );
-    bounded(line, a, &lower, &upper)
+    bounded(line, 7, a, &lower, &upper)
+}
+
+// By the sheets of the first values, of the lowest and of the highest.
+fn spanned(
+    line: &[u8],
+    ty: &[u32],
+    words: &[u64],
+    pool: &[u8],
+    lowest_words: &[u64],
+    lowest_pool: &[u8],
+    highest_words: &[u64],
+    highest_pool: &[u8],
+) -> bool {
+    let mut lower = answers::lent();
+    let mut upper = answers::lent();
+    let low = answers::room(line, 8, &lower);
+    let high = answers::room(line, 9, &upper);
+    let a = keys::tuple_span(
+        ty,
+        words,
+        pool,
+        lowest_words,
+        lowest_pool,
+        highest_words,
+        highest_pool,
+        &mut lower[..low],
+        &mut upper[..high],
+    );
+    bounded(line, 11, a, &lower, &upper)
+}
+
+fn with_lowest(
+    line: &[u8],
+    ty: &[u32],
+    words: &[u64],
+    pool: &[u8],
+    lowest_words: &[u64],
+    lowest_pool: &[u8],
+) -> bool {
+    let mut highest_words = [0; 8192];
+    let mut highest_pool = [0; 72000];
+    let w = lines::words(line, 6, &mut highest_words);
+    let p = lines::bytes(line, 7, &mut highest_pool);
+    spanned(
+        line,
+        ty,
+        words,
+        pool,
+        lowest_words,
+        lowest_pool,
+        &highest_words[..w],
+        &highest_pool[..p],
+    )
+}
+
+fn with_first(line: &[u8], ty: &[u32], words: &[u64], pool: &[u8]) -> bool {
+    let mut lowest_words = [0; 8192];
+    let mut lowest_pool = [0; 72000];
+    let w = lines::words(line, 4, &mut lowest_words);
+    let p = lines::bytes(line, 5, &mut lowest_pool);
+    with_lowest(line, ty, words, pool, &lowest_words[..w], &lowest_pool[..p])
+}
+
+pub fn span(line: &[u8], ty: &[u32]) -> bool {
+    let mut words = [0; 8192];
+    let mut pool = [0; 72000];
+    let w = lines::words(line, 2, &mut words);
+    let p = lines::bytes(line, 3, &mut pool);
+    with_first(line, ty, &words[..w], &pool[..p])
 }
 
 // The whole buffer stands in the answer, also where the call is refused.
