@@ -13,4 +13,7 @@ pub trait Sink {
     /// Whether calls of a kind are taken at all.
     fn takes(&self, kind: Kind) -> bool;
     fn call(&mut self, call: &mut Call);
+    /// Keys of one type as calls of encode_key, spans on them, and which keys each span holds by their values; the original accepts every
+    /// call. Of use to a sink that has bytes of its own.
+    fn members(&mut self, _keys: &[Call], _spans: &[(Call, Vec<bool>)]) {}
 }

@@ -197,6 +197,13 @@ pub const FAMILIES: &[Family] = &[
         chunk: 32,
         run: spans::spans,
     },
+    Family {
+        name: "members",
+        about: "many keys of a type and spans on them: a key lies between the library's ends exactly where its values say so",
+        inputs: None,
+        chunk: 16,
+        run: spans::members,
+    },
 ];
 
 // ---- helpers of the families

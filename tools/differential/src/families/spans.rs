@@ -1,4 +1,4 @@
-//! Spans on the next field: short sheets exhaustively, random ones round every boundary.
+//! Spans on the next field: short sheets exhaustively, random ones round every boundary, and keys in and out of spans by their values.
 
 use super::Work;
 use super::boundary::{Chain, wrapped};
@@ -8,9 +8,10 @@ use crate::generate;
 use crate::random::Random;
 use crate::tree::{Ty, Val};
 use fjord_schema::id::SEQUENCE_BITS;
-use oracle::Kind;
 use oracle::line::write_call;
+use oracle::members::holds;
 use oracle::optional::admit_type;
+use oracle::{Call, Kind};
 
 // ---- short sheets
 
@@ -303,4 +304,69 @@ fn wide(work: &mut Work, sink: &mut dyn Sink) {
     for k in [fewer, count - 1, count, count + 1] {
         send(work, Val::Record(vec![val.clone(); k]), &val, &near, sink);
     }
+}
+
+// ---- keys in and out of spans
+
+/// How many keys an input has, and how many spans on them.
+const KEYS: usize = 24;
+const SPANS: usize = 12;
+
+/// Keys that share their first k fields more often than not, with the next field from few values that are near one another; spans between
+/// those values. Which keys a span holds is said by the original's order of values alone.
+pub fn members(work: &mut Work, _input: u64, sink: &mut dyn Sink) {
+    if !sink.takes(Kind::Span) || !sink.takes(Kind::EncodeKey) {
+        return;
+    }
+    let types = fields_of_some(&mut work.random);
+    if types.is_empty() {
+        return;
+    }
+    let k = work.random.below(types.len());
+    let pools: Vec<Vec<Val>> = (0..types.len())
+        .map(|i| {
+            let more = if i == k { 6 } else { work.random.below(3) };
+            some_of(&mut work.random, &types[i], more)
+        })
+        .collect();
+    work.set_type(&Ty::Record(types));
+    let keys: Vec<Call> = (0..KEYS).filter_map(|_| key_of_some(work, &pools)).collect();
+    if keys.is_empty() {
+        return;
+    }
+    let mut spans = Vec::new();
+    for _ in 0..SPANS {
+        let lowest = &pools[k][work.random.below(pools[k].len())];
+        let highest = &pools[k][work.random.below(pools[k].len())];
+        let first = Val::Record(pools[..k].iter().map(|pool| pool[work.random.below(pool.len())].clone()).collect());
+        work.set_value(&first);
+        work.set_other(lowest);
+        work.set_third(highest);
+        work.call.kind = Kind::Span;
+        work.oracle.run(&work.call);
+        if work.oracle.outcome.answer.refusal == 0 {
+            spans.push((work.call.clone(), keys.iter().map(|key| holds(&work.call, key)).collect()));
+        }
+    }
+    sink.members(&keys, &spans);
+}
+
+/// A value of a type, and so many more that are near it or one another.
+fn some_of(random: &mut Random, ty: &Ty, more: usize) -> Vec<Val> {
+    let mut vals = vec![generate::fitting(random, ty)];
+    for _ in 0..more {
+        let of = random.below(vals.len());
+        let val = if random.one_in(4) { generate::fitting(random, ty) } else { generate::near(random, ty, &vals[of]) };
+        vals.push(val);
+    }
+    vals
+}
+
+/// A record with each field from its values, as a call of encode_key that the original accepts.
+fn key_of_some(work: &mut Work, pools: &[Vec<Val>]) -> Option<Call> {
+    let val = Val::Record(pools.iter().map(|pool| pool[work.random.below(pool.len())].clone()).collect());
+    work.set_value(&val);
+    let key = Call { ty: work.call.ty.clone(), words: work.call.words.clone(), pool: work.call.pool.clone(), ..Call::new(Kind::EncodeKey) };
+    work.oracle.run(&key);
+    (work.oracle.outcome.answer.refusal == 0).then_some(key)
 }

@@ -8,6 +8,7 @@ pub mod book;
 pub mod call;
 pub mod compute;
 pub mod line;
+pub mod members;
 pub mod optional;
 pub mod refusal;
 pub mod room;

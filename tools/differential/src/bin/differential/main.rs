@@ -96,8 +96,12 @@ fn main() -> ExitCode {
             let most = options.limits.differences;
             let ran = run(family, &options.limits);
             let cases = ran.counts.iter().sum::<u64>();
+            let members = match ran.members {
+                [0, 0] => String::new(),
+                [inside, outside] => format!("; keys in a span {inside}, not in it {outside}"),
+            };
             println!(
-                "{:9} seed {} inputs {} to {}: {cases} cases, {} differences",
+                "{:9} seed {} inputs {} to {}: {cases} cases, {} differences{members}",
                 family.name, options.limits.seed, options.limits.from, ran.next, ran.differences
             );
             counts.iter_mut().zip(ran.counts).for_each(|(total, count)| *total += count);

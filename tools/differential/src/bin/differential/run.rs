@@ -7,7 +7,7 @@ use differential::shrink::shrink;
 use oracle::call::KINDS;
 use oracle::line::{write_answer, write_call};
 use oracle::room::{answer_in_room, telling_rooms};
-use oracle::{Call, Kind, Oracle};
+use oracle::{Call, Kind, Oracle, Outcome};
 use std::sync::Mutex;
 use std::sync::atomic::{AtomicBool, AtomicU64, Ordering::Relaxed};
 use std::time::{Duration, Instant};
@@ -31,6 +31,8 @@ pub struct Ran {
     /// the first input that was not run
     pub next: u64,
     pub differences: usize,
+    /// how often a key was in a span, and how often it was not
+    pub members: [u64; 2],
 }
 
 /// A thread's two sides.
@@ -41,11 +43,27 @@ struct Both {
     counts: Counts,
     /// the first call of the input that differed
     differing: Option<Call>,
+    members: [u64; 2],
+    /// the first key of the input that is in a span by its values and not by its bytes, or the other way round
+    stray: Option<String>,
+}
+
+/// Room for the bytes of a value.
+fn room_for(words: &[u64], pool: &[u8]) -> usize {
+    10 * words.len() + 2 * pool.len() + 2
 }
 
 impl Both {
     fn new() -> Both {
-        Both { oracle: Oracle::default(), ours: Ours::default(), rooms: Vec::new(), counts: [0; KINDS.len()], differing: None }
+        Both {
+            oracle: Oracle::default(),
+            ours: Ours::default(),
+            rooms: Vec::new(),
+            counts: [0; KINDS.len()],
+            differing: None,
+            members: [0; 2],
+            stray: None,
+        }
     }
 
     fn differs_in_rooms_given(&mut self, call: &Call) -> bool {
@@ -93,6 +111,23 @@ impl Both {
         }
         text
     }
+
+    /// The call with the library's answer, and what it handed out, given room enough. A refusal is a stray, since the original accepts it.
+    fn shown(&mut self, call: &Call) -> (String, Outcome) {
+        let first = room_for(&call.words, &call.pool);
+        let rooms = [first + room_for(&call.other_words, &call.other_pool), first + room_for(&call.third_words, &call.third_pool)];
+        let call = Call { rooms, ..call.clone() };
+        let (answer, outcome) = self.ours.seen(&call);
+        let mut text = String::new();
+        write_call(&mut text, &call);
+        text.push_str(" = ");
+        text.push_str(&crate::ours::seen_text(&call, &answer, &outcome));
+        self.counts[call.kind as usize] += 1;
+        if answer.refusal != 0 && self.stray.is_none() {
+            self.stray = Some(format!("ours: {text}\n  the original accepts it"));
+        }
+        (text, outcome)
+    }
 }
 
 impl Sink for Both {
@@ -116,6 +151,22 @@ impl Sink for Both {
         }
         self.counts[call.kind as usize] += self.rooms.len() as u64;
     }
+
+    /// The library's keys between the library's ends, against what the values say.
+    fn members(&mut self, keys: &[Call], spans: &[(Call, Vec<bool>)]) {
+        let keys: Vec<(String, Outcome)> = keys.iter().map(|key| self.shown(key)).collect();
+        for (span, held) in spans {
+            let (ends, outcome) = self.shown(span);
+            for ((key, written), held) in keys.iter().zip(held) {
+                self.members[usize::from(!held)] += 1;
+                let between = outcome.bytes <= written.bytes && written.bytes < outcome.pool;
+                if between != *held && self.stray.is_none() {
+                    let by_values = if *held { "in the span by its values" } else { "outside the span by its values" };
+                    self.stray = Some(format!("ours: {ends}\n  ours: {key}\n  the key is {by_values}, but not by its bytes"));
+                }
+            }
+        }
+    }
 }
 
 /// What the threads share.
@@ -136,7 +187,7 @@ impl Shared<'_> {
             || self.end.is_some_and(|end| Instant::now() >= end)
     }
 
-    fn work(&self) -> Counts {
+    fn work(&self) -> (Counts, [u64; 2]) {
         let (mut both, mut work) = (Both::new(), Work::default());
         let mut counted = 0;
         while !self.spent() {
@@ -153,12 +204,15 @@ impl Shared<'_> {
                 if let Some(call) = both.differing.take() {
                     self.keep(input, both.report(call));
                 }
+                if let Some(report) = both.stray.take() {
+                    self.keep(input, report);
+                }
             }
             let total = both.counts.iter().sum::<u64>();
             self.cases.fetch_add(total - counted, Relaxed);
             counted = total;
         }
-        both.counts
+        (both.counts, both.members)
     }
 
     fn keep(&self, input: u64, report: String) {
@@ -200,7 +254,7 @@ pub fn run(family: &Family, limits: &Limits) -> Ran {
         stop: AtomicBool::new(false),
         differences: Mutex::new(0),
     };
-    let mut counts = [0; KINDS.len()];
+    let (mut counts, mut members) = ([0; KINDS.len()], [0; 2]);
     std::thread::scope(|scope| {
         let threads: Vec<_> = (0..limits.threads)
             .map(|_| {
@@ -220,7 +274,8 @@ pub fn run(family: &Family, limits: &Limits) -> Ran {
         }
         for thread in threads {
             let ran = thread.join().unwrap_or_else(|panic| std::panic::resume_unwind(panic));
-            counts.iter_mut().zip(ran).for_each(|(total, count)| *total += count);
+            counts.iter_mut().zip(ran.0).for_each(|(total, count)| *total += count);
+            members.iter_mut().zip(ran.1).for_each(|(total, count)| *total += count);
         }
     });
     shared.progress(since, true);
@@ -228,6 +283,7 @@ pub fn run(family: &Family, limits: &Limits) -> Ran {
         counts,
         next: shared.next.load(Relaxed).min(family.inputs.unwrap_or(u64::MAX)),
         differences: shared.differences.into_inner().expect("no thread failed"),
+        members,
     }
 }
 
