@@ -1,4 +1,4 @@
-//! What is timed: types with values of them, all records, so that every call takes them.
+//! What is timed: types with values of them, all records, so that every call takes them; a span takes those with a second field.
 
 use fjord_schema::id::SEQUENCE_BITS;
 

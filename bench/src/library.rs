@@ -50,6 +50,7 @@ unsafe extern "C" {
     fn tuple_compare(words_a: *const u64, words_a_len: usize, pool_a: *const u8, pool_a_len: usize, words_b: *const u64, words_b_len: usize, pool_b: *const u8, pool_b_len: usize) -> Order;
     fn tuple_strinc(prefix: *const u8, prefix_len: usize, out: *mut u8, out_len: usize) -> Length;
     fn tuple_bounds(ty: *const u32, ty_len: usize, key: *const u8, key_len: usize, k: usize, lower: *mut u8, lower_len: usize, upper: *mut u8, upper_len: usize) -> Ends;
+    fn tuple_span(ty: *const u32, ty_len: usize, words: *const u64, words_len: usize, pool: *const u8, pool_len: usize, lowest_words: *const u64, lowest_words_len: usize, lowest_pool: *const u8, lowest_pool_len: usize, highest_words: *const u64, highest_words_len: usize, highest_pool: *const u8, highest_pool_len: usize, lower: *mut u8, lower_len: usize, upper: *mut u8, upper_len: usize) -> Ends;
     fn tuple_replace(ty: *const u32, ty_len: usize, buffer: *mut u8, buffer_len: usize, used: usize, field: usize, words: *const u64, words_len: usize, pool: *const u8, pool_len: usize) -> Length;
 }
 
@@ -95,6 +96,21 @@ pub fn strinc(prefix: &[u8], out: &mut [u8]) -> Length {
 pub fn bounds(ty: &[u32], key: &[u8], k: usize, lower: &mut [u8], upper: &mut [u8]) -> Ends {
     unsafe {
         tuple_bounds(ty.as_ptr(), ty.len(), key.as_ptr(), key.len(), k, lower.as_mut_ptr(), lower.len(), upper.as_mut_ptr(), upper.len())
+    }
+}
+
+/// A value sheet: words and pool.
+type Given = (Vec<u64>, Vec<u8>);
+
+#[rustfmt::skip]
+pub fn span(ty: &[u32], first: &Given, lowest: &Given, highest: &Given, lower: &mut [u8], upper: &mut [u8]) -> Ends {
+    unsafe {
+        tuple_span(
+            ty.as_ptr(), ty.len(), first.0.as_ptr(), first.0.len(), first.1.as_ptr(), first.1.len(),
+            lowest.0.as_ptr(), lowest.0.len(), lowest.1.as_ptr(), lowest.1.len(),
+            highest.0.as_ptr(), highest.0.len(), highest.1.as_ptr(), highest.1.len(),
+            lower.as_mut_ptr(), lower.len(), upper.as_mut_ptr(), upper.len(),
+        )
     }
 }
 

@@ -2,9 +2,9 @@
 //!
 //! The library is given sheets, which each call admits, and buffers lent once, which decoding fills. The original is given its own types and values, built
 //! before, and allocates what it answers; the time to free that counts. The third time is the original's with what the library's includes: its sheets
-//! admitted to types and values first, a decoded value written to a sheet in buffers lent once. Bounds and replacement are the original's decode, change
-//! and encode. The argument `growth` shows how time grows with the size of a value instead, `counts` the instructions by callgrind, `dose` the alternatives
-//! of a union by their places in place of the inputs.
+//! admitted to types and values first, a decoded value written to a sheet in buffers lent once. Bounds and replacement are the original's decode, change and
+//! encode, a span is two of its encodes. The argument `growth` shows how time grows with the size of a value instead, `counts` the instructions by callgrind,
+//! `dose` the alternatives of a union by their places in place of the inputs.
 
 mod clock;
 mod counts;
@@ -21,7 +21,7 @@ use inputs::Input;
 use sheet::{admit_type, admit_value, write_sheet};
 use std::hint::black_box;
 
-const CALLS: [&str; 8] = ["encode_key", "decode_key", "check_key", "skip", "compare", "strinc", "bounds", "replace"];
+const CALLS: [&str; 9] = ["encode_key", "decode_key", "check_key", "skip", "compare", "strinc", "bounds", "span", "replace"];
 
 fn main() {
     let wanted: Vec<String> = std::env::args().skip(1).collect();
@@ -44,7 +44,8 @@ fn run(wanted: &[String]) {
     for call in CALLS {
         for input in &inputs {
             let name = format!("{call} {}", input.name);
-            if wanted.is_empty() || wanted.iter().any(|word| name.contains(word.as_str())) {
+            let takes = call != "span" || input.ty[1] > 1;
+            if takes && (wanted.is_empty() || wanted.iter().any(|word| name.contains(word.as_str()))) {
                 let mut row = Row::new(input);
                 let bytes = row.cases.iter().map(|case| case.key.len()).sum::<usize>() / row.cases.len();
                 let [ours, rust, sheets] = row.times(call);
@@ -117,6 +118,7 @@ impl<'a> Row<'a> {
             "compare" => self.compare(),
             "strinc" => self.strinc(),
             "bounds" => self.bounds(),
+            "span" => self.span(),
             _ => self.replace(),
         }
     }
@@ -225,6 +227,29 @@ impl<'a> Row<'a> {
         clock::medians([&mut ours, &mut rust, &mut sheets], cases.len())
     }
 
+    /// Behind the first field, from the second of a value to that of the next value.
+    fn span(&mut self) -> [f64; 3] {
+        let Row { sheet, ty, cases, out, more, .. } = self;
+        let nexts: Vec<&Value> = cases.iter().map(|case| &fields(&case.value)[1].1).collect();
+        let spans: Vec<Span> =
+            cases.iter().enumerate().map(|(i, case)| Span::new(&case.first_value, nexts[i], nexts[(i + 1) % nexts.len()])).collect();
+        for Span { sheets: [first, lowest, highest], values } in &spans {
+            let answer = library::span(sheet, first, lowest, highest, out, more);
+            let ends = original_span(ty, values);
+            assert_eq!((&out[..answer.lower as usize], &more[..answer.upper as usize]), (&ends.0[..], &ends.1[..]));
+        }
+        let mut ours = |i: usize| {
+            let [first, lowest, highest] = &spans[i].sheets;
+            _ = black_box(library::span(sheet, first, lowest, highest, out, more));
+        };
+        let mut rust = |i: usize| _ = black_box(original_span(ty, &spans[i].values));
+        let mut sheets = |i: usize| {
+            let values = spans[i].sheets.each_ref().map(|(words, pool)| admit_value(words, pool).expect("a value"));
+            _ = black_box(original_span(&admit_type(sheet).expect("a type"), &values));
+        };
+        clock::medians([&mut ours, &mut rust, &mut sheets], cases.len())
+    }
+
     /// The first field by itself, so that the key stays.
     fn replace(&mut self) -> [f64; 3] {
         let Row { sheet, ty, cases, interner, .. } = self;
@@ -243,6 +268,46 @@ impl<'a> Row<'a> {
         assert!(cases.iter().zip(&buffers).all(|(case, buffer)| buffer.starts_with(&case.key)));
         times
     }
+}
+
+/// A record of the first field, a lowest and a highest value, in both shapes.
+struct Span {
+    sheets: [(Vec<u64>, Vec<u8>); 3],
+    values: [Value; 3],
+}
+
+impl Span {
+    fn new(first: &Value, lowest: &Value, highest: &Value) -> Span {
+        let values = [Value::Record([(String::new(), first.clone())].into()), lowest.clone(), highest.clone()];
+        let sheets = values.each_ref().map(|value| {
+            let mut sheet = (Vec::new(), Vec::new());
+            write_sheet(value, &mut sheet.0, &mut sheet.1);
+            sheet
+        });
+        Span { sheets, values }
+    }
+}
+
+fn fields(value: &Value) -> &[(String, Value)] {
+    let Value::Record(fields) = value else { unreachable!("a record") };
+    fields
+}
+
+/// Two encodes: the first values and the lowest; the first values, the highest and FF.
+fn original_span(ty: &PredicateTy, [first, lowest, highest]: &[Value; 3]) -> (Vec<u8>, Vec<u8>) {
+    let PredicateTy::Record(types) = ty else { unreachable!("a record") };
+    let end = |next: &Value| {
+        let mut end = Vec::new();
+        let mut encoder = TupleEncoder::new(&mut end);
+        let values = fields(first).iter().map(|(_, value)| value).chain([next]);
+        for ((_, ty), value) in types.iter().zip(values) {
+            tuple::encode_typed_at(&mut encoder, ty, value).expect("a value of the type");
+        }
+        end
+    };
+    let (lower, mut upper) = (end(lowest), end(highest));
+    upper.push(0xFF);
+    (lower, upper)
 }
 
 /// The first k fields, encoded bare, and with FF behind.
