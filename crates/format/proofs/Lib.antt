@@ -64,6 +64,7 @@
 -- Ranges       strinc writes the least end above a prefix, and a span on the next field cuts exactly
 -- RangeExamples   such ends worked by hand, and wrong ones that are not the least
 -- RangeLaws    a key lies in a span on the field behind the first k exactly if these are equal and the next is in it
+-- SpanExamples   spans worked by hand, accepted and refused
 -- Blank        optional types: a blank is 00 or 00 FF and sorts first, anything else is the type behind word 7; no 7 straight behind another
 -- ZeroLaws     the zeros escaped in a run, in a value and by a call: those of the pool
 pub mod Specimens
@@ -117,5 +118,6 @@ pub mod SearchLaws
 pub mod Ranges
 pub mod RangeExamples
 pub mod RangeLaws
+pub mod SpanExamples
 pub mod Blank
 pub mod ZeroLaws
