@@ -1,26 +1,13 @@
 // The ink house's case: tanks whose tags are 0A and 0A 00, alone and inside a record, integers at a change of width, and recipe lines without a supplier's lot. For
 // each pair it prints both keys, the ends that the bounds call gives for the first one's first field, which of the two keys lies between them, and which would with
-// strinc as the upper end.
-use blocks::Order;
-use encode::Encoded;
+// strinc as the upper end. Then the spans of batches of the two tanks.
+mod keys; // keys.rt: keys, and whether one lies between two ends
+mod spans; // spans.rt: spans on the next field, and the batches that they take in
+
+use crate::keys::between;
+use crate::keys::key_len;
 use format::Length;
 use key::Bounded;
-
-fn below(a: &[u8], b: &[u8]) -> bool {
-    match blocks::compare(a, b) {
-        Order::Less => true,
-        Order::Equal => false,
-        Order::Greater => false,
-    }
-}
-
-// Does a key lie at or above the lower end and below the upper?
-fn between(key: &[u8], lower: &[u8], upper: &[u8]) -> bool {
-    if below(key, lower) {
-        return false;
-    }
-    below(key, upper)
-}
 
 fn taken_in(a: bool, b: bool) {
     show::text(b"  takes in:");
@@ -60,17 +47,6 @@ fn bounds_line(ty: &[u32], a: &[u8], b: &[u8], k: usize) {
             ends_line(a, b, show::first(&lower, low), show::first(&upper, high));
             strinc_line(a, b, show::first(&lower, low));
         }
-    }
-}
-
-// A key's length in its buffer, 0 for a refused one, which is printed.
-fn key_len(ty: &[u32], words: &[u64], pool: &[u8], out: &mut [u8]) -> usize {
-    match encode::encode_key(ty, words, pool, out) {
-        Encoded::Refused(no, detail) => {
-            show::refusal(no, detail);
-            0
-        }
-        Encoded::Done { length, zeros: _ } => length,
     }
 }
 
@@ -186,4 +162,5 @@ fn main() {
     show::text(b"tank 0A renamed 0A 00\n");
     renamed();
     recipe_lines();
+    spans::spans();
 }
