@@ -51,6 +51,11 @@ kind-of (Val.Union d v) = refl
 pub is-made : (v : Val) (m : ℕ) → m ≡ rank v → v ≡ built (kindOf m) v
 is-made v m e = built-is v ∙ ap (λ (n : ℕ). built n v) (kind-of v ∙ ap kindOf (sym e))
 
+-- kind 5 is the record of its fields
+pub is-record : (v : Val) → valKind v ≡ 5 → v ≡ Val.Record (fieldsIn v)
+unfolding built
+is-record v e = built-is v ∙ ap (λ (n : ℕ). built n v) e
+
 -- kind 0 is Null alone, and so is rank 0
 pub is-null : (v : Val) → valKind v ≡ 0 → v ≡ Val.Null
 unfolding built

@@ -9,7 +9,7 @@ use lib.Dec.{ltb}
 use lib.ListN.{length, take, drop}
 use lib.Seq.{take-append-seam}
 use Rattle.format.specs.Answer.{if, Answer, ok, refused, andThen, noRoom, NoField}
-use Rattle.format.specs.Tree.{Ty, Tys, Val, Vals, fieldsIn}
+use Rattle.format.specs.Tree.{Ty, Tys, Val, Vals, valKind, fieldsIn}
 use Rattle.format.specs.Sheet.{fieldCount, valCount}
 use Rattle.format.specs.TypeSheet.{typeOf}
 use Rattle.format.specs.ValueSheet.{valueOf}
@@ -21,7 +21,8 @@ use Rattle.format.specs.Calls.{Called, Ends, Bounded, TwoEnds, over, wri
 use Rattle.format.specs.Demand3.{Held}
 use Rattle.format.specs.Spans.{firstTys, fieldType, withRecord, withNext, spanEnds, spanOf, spanFor, spanCall, InSpan}
 use Rattle.format.specs.Ranges.{StrincTight, KeyOf, Cuts, SpanExact, SpansExact}
-use Rattle.format.proofs.Tests.{ltb-test, passed, ltb-yes}
+use Rattle.format.proofs.Tests.{eqb-test, ltb-test, passed, ltb-yes}
+use Rattle.format.proofs.KindLaws.{is-record}
 use Rattle.format.proofs.Sound.{Sound, AllSound}
 use Rattle.format.proofs.EncodeLaws.{no-answer, then-ok, and-fine, fits-count, key-parts, key-within}
 use Rattle.format.proofs.KeyRound.{record-round}
@@ -60,13 +61,7 @@ value-ok none f e = absurd (no-answer e)
 
 record-ok : {A : Type 0} (o : Option Val) (f : Vals → Answer A) {x : A} → withRecord o f ≡ ok x → (vs : Vals) × (o ≡ some (Val.Record vs)) × (f vs ≡ ok x)
 record-ok none f e = absurd (no-answer e)
-record-ok (some Val.Null) f e = absurd (no-answer e)
-record-ok (some (Val.Int w)) f e = absurd (no-answer e)
-record-ok (some (Val.Str s)) f e = absurd (no-answer e)
-record-ok (some (Val.Bytes s)) f e = absurd (no-answer e)
-record-ok (some (Val.Ref r)) f e = absurd (no-answer e)
-record-ok (some (Val.Record vs)) f e = (vs, refl, e)
-record-ok (some (Val.Union d v)) f e = absurd (no-answer e)
+record-ok (some v) f e = let p = passed _ _ (eqb-test (valKind v) 5) no-answer e in (fieldsIn v, ap some (is-record v (p .0)), p .1)
 
 fields-ok : {A : Type 0} (t : Ty) (f : Tys → Answer A) {x : A} → withFields t f ≡ ok x → (ts : Tys) × (t ≡ Ty.Record ts) × (f ts ≡ ok x)
 fields-ok Ty.Int f e = absurd (no-answer e)

@@ -3,9 +3,9 @@ use Prim.Native.Nat.{ℕ, zero, suc, Ordering·gt}
 use mathlib.Core.List.{List, _++_}
 use mathlib.Core.Option.{Option, some, none}
 use mathlib.Core.Logic.{_≢_}
-use lib.Dec.{ltb}
+use lib.Dec.{ltb, eqb}
 use Rattle.format.specs.Answer.{if, Answer, ok, refused, andThen, BadValue, NoField}
-use Rattle.format.specs.Tree.{Ty, Tys, Val, Vals}
+use Rattle.format.specs.Tree.{Ty, Tys, Val, Vals, valKind, fieldsIn}
 use Rattle.format.specs.Sheet.{fieldCount, valCount}
 use Rattle.format.specs.TypeSheet.{typeOf}
 use Rattle.format.specs.ValueSheet.{valueOf}
@@ -19,13 +19,7 @@ use Rattle.format.specs.Calls.{withType, withValue, withFields, TwoEnds,
 -- with the fields of an admitted Record sheet; another kind is BadValue, as is a sheet that is not admitted
 abbrev pub withRecord : {A : Type 0} → Option Val → (Vals → Answer A) → Answer A
 withRecord none f = refused BadValue 0
-withRecord (some Val.Null) f = refused BadValue 0
-withRecord (some (Val.Int w)) f = refused BadValue 0
-withRecord (some (Val.Str s)) f = refused BadValue 0
-withRecord (some (Val.Bytes s)) f = refused BadValue 0
-withRecord (some (Val.Ref r)) f = refused BadValue 0
-withRecord (some (Val.Record vs)) f = f vs
-withRecord (some (Val.Union d v)) f = refused BadValue 0
+withRecord (some v) f = if (eqb (valKind v) 5) (f (fieldsIn v)) (refused BadValue 0)
 
 -- the types of the first k fields
 unfoldable pub firstTys : ℕ → Tys → Tys

@@ -5,11 +5,11 @@ use mathlib.Core.Option.{Option, some, none}
 use mathlib.Core.List.{List, [], _∷_, _++_}
 use Prim.Native.Nat.{ℕ, _+_, _-_, _≤_, _<_, _^_}
 use native.Mathlib.Omega.{arith}
-use borrow.Author.Tests.{not-true, not-false, ltb-true}
+use borrow.Author.Tests.{not-true, not-false, eqb-true, ltb-true}
 use lib.Dec.{eqb, ltb}
 use lib.ListN.{length, getD, set, drop, length-append}
 use Rattle.format.specs.Answer.{if, Answer, ok, refused, BadType, BadValue, NoField, NoRoom}
-use Rattle.format.specs.Tree.{Ty, Val, Vals, valKind}
+use Rattle.format.specs.Tree.{Ty, Val, Vals, valKind, fieldsIn}
 use Rattle.format.specs.Sheet.{fieldCount, valCount, tyWords}
 use Rattle.format.specs.TypeSheet as type-sheets
 use Rattle.format.specs.TypeSheet.{typeOf, isSome, maxGroups, nesting, nestings}
@@ -21,6 +21,7 @@ use Rattle.format.specs.Calls.{over, Ends, TwoEnds}
 use Rattle.format.specs.Fields.{put}
 use Rattle.format.specs.Spans.{firstTys, fieldType, withRecord, withNext, spanEnds, spanOf, spanFor, spanCall}
 use Rattle.format.proofs.Tests.{eqb-test, eqb-yes, eqb-no, ltb-yes, ltb-no, Test, holds, fails}
+use Rattle.format.proofs.KindLaws.{is-record}
 use Rattle.format.proofs.TypeLaws as types
 use Rattle.format.proofs.TypePlaces as type-places
 use Rattle.format.proofs.TypePlaces.{TypeIn, TypesIn}
@@ -48,35 +49,14 @@ use Rattle.key.proofs.ValueLaws.{no-value, its-value, it-is, it-stands}
 
 -- ---- the record sheet
 
-kind-five : (v : Val) → eqb (valKind v) 5 ≡ isRecord (some v)
-kind-five Val.Null = refl
-kind-five (Val.Int w) = refl
-kind-five (Val.Str s) = refl
-kind-five (Val.Bytes s) = refl
-kind-five (Val.Ref r) = refl
-kind-five (Val.Record vs) = refl
-kind-five (Val.Union d v) = refl
-
 -- of another kind, or of none
 not-record : {A : Type 0} (o : Option Val) (f : Vals → Answer A) → isRecord o ≡ false → withRecord o f ≡ refused BadValue 0
 not-record none f e = refl
-not-record (some Val.Null) f e = refl
-not-record (some (Val.Int w)) f e = refl
-not-record (some (Val.Str s)) f e = refl
-not-record (some (Val.Bytes s)) f e = refl
-not-record (some (Val.Ref r)) f e = refl
-not-record (some (Val.Record vs)) f e = absurd (let z : _≡_ {A = ℕ} 0 1 = cc in omega arith)
-not-record (some (Val.Union d v)) f e = refl
+not-record (some v) f e = rw e
 
 its-fields : (o : Option Val) → isRecord o ≡ true → (vs : Vals) × (o ≡ some (Val.Record vs))
 its-fields none e = absurd (let z : _≡_ {A = ℕ} 0 1 = cc in omega arith)
-its-fields (some Val.Null) e = absurd (let z : _≡_ {A = ℕ} 0 1 = cc in omega arith)
-its-fields (some (Val.Int w)) e = absurd (let z : _≡_ {A = ℕ} 0 1 = cc in omega arith)
-its-fields (some (Val.Str s)) e = absurd (let z : _≡_ {A = ℕ} 0 1 = cc in omega arith)
-its-fields (some (Val.Bytes s)) e = absurd (let z : _≡_ {A = ℕ} 0 1 = cc in omega arith)
-its-fields (some (Val.Ref r)) e = absurd (let z : _≡_ {A = ℕ} 0 1 = cc in omega arith)
-its-fields (some (Val.Record vs)) e = (vs, refl)
-its-fields (some (Val.Union d v)) e = absurd (let z : _≡_ {A = ℕ} 0 1 = cc in omega arith)
+its-fields (some v) e = (fieldsIn v, ap some (is-record v (eqb-true (valKind v) 5 e)))
 
 module _ (words pool : List ℕ) {b : Bool} (said : b ≡ isSome (valueOf words pool)) where
   pub no-sheet : not b ≡ true → false ≡ isRecord (valueOf words pool)
@@ -90,7 +70,7 @@ module _ (words pool : List ℕ) {b : Bool} (said : b ≡ isSome (valueOf words 
     first-word = here .0
 
     pub kind-says : eqb (getD words 0 0) 5 ≡ isRecord (valueOf words pool)
-    kind-says = ap (λ (n : ℕ). eqb n 5) (here .1) ∙ kind-five (its-value words pool said yes) ∙ ap isRecord (sym (it-is words pool said yes))
+    kind-says = ap (λ (n : ℕ). eqb n 5) (here .1) ∙ ap isRecord (sym (it-is words pool said yes))
 
 -- what stands on a record's sheet: its count, and its fields behind it
 module _ (words pool : List ℕ) {vs : Vals} (is : valueOf words pool ≡ some (Val.Record vs)) where

@@ -7,7 +7,7 @@ use Prim.Native.Nat.{ℕ, _≤_, _<_}
 use lib.Dec.{ltb, eqb}
 use lib.ListN.{length, getD}
 use Rattle.format.specs.Answer.{if, Answer, ok, refused}
-use Rattle.format.specs.Tree.{Ty, Tys, Val, Vals}
+use Rattle.format.specs.Tree.{Ty, Tys, Val, Vals, valKind}
 use Rattle.format.specs.Sheet.{fieldCount, valCount}
 use Rattle.format.specs.TypeSheet.{typeOf}
 use Rattle.format.specs.ValueSheet.{valueOf}
@@ -21,13 +21,7 @@ use Rattle.format.specs.Spans.{spanFor}
 -- a sheet that is admitted, and a record
 abbrev pub isRecord : Option Val → Bool
 isRecord none = false
-isRecord (some Val.Null) = false
-isRecord (some (Val.Int w)) = false
-isRecord (some (Val.Str s)) = false
-isRecord (some (Val.Bytes s)) = false
-isRecord (some (Val.Ref r)) = false
-isRecord (some (Val.Record vs)) = true
-isRecord (some (Val.Union d v)) = false
+isRecord (some v) = eqb (valKind v) 5
 
 -- the words that say how many fields there are: of a type sheet that is no record's, none
 pub record FirstWords (ty words : List ℕ) : Type 0 where

@@ -433,13 +433,7 @@ replaces ty buffer used field words pool =
 -- the first k values' sheet
 recorded : {A : Type 0} (o : Option Val) (f : Vals → Answer A) → ((vs : Vals) → Numbered (f vs)) → Numbered (withRecord o f)
 recorded none f p = listed tt tt
-recorded (some Val.Null) f p = listed tt tt
-recorded (some (Val.Int w)) f p = listed tt tt
-recorded (some (Val.Str s)) f p = listed tt tt
-recorded (some (Val.Bytes s)) f p = listed tt tt
-recorded (some (Val.Ref r)) f p = listed tt tt
-recorded (some (Val.Record vs)) f p = p vs
-recorded (some (Val.Union d v)) f p = listed tt tt
+recorded (some v) f p = numbered-if (eqb (valKind v) 5) _ _ (p (fieldsIn v)) (listed tt tt)
 
 -- the field behind them
 next-of : {A : Type 0} (t : Ty) (k : ℕ) (f : Tys → Ty → Answer A) → ((ts : Tys) (u : Ty) → Numbered (f ts u)) → Numbered (withNext t k f)
