@@ -93,7 +93,7 @@ pub fn bounds_line(ty: &[u32], key: &[u8], k: usize) {
     }
 }
 
-fn bytes_line(len: usize) {
+pub fn bytes_line(len: usize) {
     show::text(b"bytes ");
     show::number(len as u64);
     show::text(b"\n");

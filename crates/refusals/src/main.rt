@@ -1,6 +1,7 @@
-// Runs each example of document 01's table that the whole-value calls can show, its specimens of nested records and of the longest key, and blank fields.
+// Runs each example of document 01's table that the whole-value calls can show, its specimens of nested records and of the longest key, blank fields, and spans.
 mod blanks; // blanks.rt: optional types, and a value's blanks
 mod lines; // lines.rt: a call's answer on a line
+mod spans; // spans.rt: spans on the next field
 
 use crate::lines::bounds_line;
 use crate::lines::compare_line;
@@ -210,14 +211,14 @@ fn type_at(i: usize, last: usize) -> u32 {
     if i % 2 == 0 { 5 } else { 1 }
 }
 
-fn fill_type(ty: &mut [u32]) {
+pub fn fill_type(ty: &mut [u32]) {
     let last = last_of(ty.len());
     for i in 0..ty.len() {
         ty[i] = type_at(i, last);
     }
 }
 
-fn fill_words(words: &mut [u64]) {
+pub fn fill_words(words: &mut [u64]) {
     let last = last_of(words.len());
     for i in 0..words.len() {
         words[i] = word_at(i, last);
@@ -258,4 +259,5 @@ fn main() {
     nested_records();
     longest_key();
     blanks::blanks();
+    spans::spans();
 }
