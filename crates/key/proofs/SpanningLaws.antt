@@ -96,7 +96,7 @@ next-is ty words n h e = rw (eqb-yes (getD ty 0 0) 5 h, e)
 
 module _ (ty words pool lowWords lowPool highWords highPool : List ℕ) where
   refuse : (n : ℕ) → 0 < n → spanFor ty words pool lowWords lowPool highWords highPool ≡ refused n 0 → Refuses ty words pool lowWords lowPool highWords highPool n
-  refuse n h e = record { none = λ z. absurd (omega arith); one = λ z. e }
+  refuse n h e = record { passed = λ z. absurd (omega arith); refusal = λ z. e }
 
   module _ {b : Bool} (said : b ≡ isSome (typeOf ty)) where
     pub c-type : not b ≡ true → Refuses ty words pool lowWords lowPool highWords highPool BadType
@@ -116,7 +116,7 @@ module _ (ty words pool lowWords lowPool highWords highPool : List ℕ) where
         its-first = its-fields (valueOf words pool) (sym first ∙ not-false q record-yes)
 
         pub c-words : FirstWords ty words
-        c-words = record { some = some-words ty said yes; fields = λ k. count-word ty said yes k; values = count-in words pool (its-first .1) .0 }
+        c-words = record { kind-word = some-words ty said yes; type-count = λ k. count-word ty said yes k; value-count = count-in words pool (its-first .1) .0 }
 
         module _ {l : Bool} (low : l ≡ isSome (valueOf lowWords lowPool)) where
           pub c-low : not l ≡ true → Refuses ty words pool lowWords lowPool highWords highPool BadValue
@@ -150,7 +150,7 @@ module _ (ty words pool lowWords lowPool highWords highPool : List ℕ) where
                   go _ (fails k) z = let t = another ty said yes k in refuse NoField (omega arith) (past-sheets (t .0) (t .1) ∙ no-record (t .0) (t .2) .fields _)
 
               pub c-none : not n ≡ false → Refuses ty words pool lowWords lowPool highWords highPool 0
-              c-none h = record { none = λ z. go (eqb (getD ty 0 0) 5) (eqb-test (getD ty 0 0) 5) (sym next ∙ not-false n h); one = λ z. absurd (z refl) }
+              c-none h = record { passed = λ z. go (eqb (getD ty 0 0) 5) (eqb-test (getD ty 0 0) 5) (sym next ∙ not-false n h); refusal = λ z. absurd (z refl) }
                 where
                   go : (e : Bool) → Test (getD ty 0 0 ≡ 5) (getD ty 0 0 ≡ 5 → ⊥) e → if e (ltb (getD words 1 0) (getD ty 1 0)) false ≡ true → Asked ty words pool lowWords lowPool highWords highPool
                   go _ (fails k) z = absurd (let y : _≡_ {A = ℕ} 0 1 = cc in omega arith)
@@ -314,7 +314,7 @@ module _ (ty words pool lowWords lowPool highWords highPool lower upper : List �
 
   pub s-sheets : {n : ℕ} → Refuses ty words pool lowWords lowPool highWords highPool n → (n ≡ 0 → ⊥)
       → BoundsLeft (spanCall ty words pool lowWords lowPool highWords highPool lower upper) (bounding.Refused n 0) lower upper
-  s-sheets {n} c z = says-no n 0 (c .one z)
+  s-sheets {n} c z = says-no n 0 (c .refusal z)
 
   -- the lengths of a call that is not refused, and what it was given
   measured : {low high : ℕ} → boundedOf (bounding.Done low high) ≡ longs (spanFor ty words pool lowWords lowPool highWords highPool)

@@ -25,9 +25,9 @@ isRecord (some v) = eqb (valKind v) 5
 
 -- the words that say how many fields there are: of a type sheet that is no record's, none
 pub record FirstWords (ty words : List ℕ) : Type 0 where
-  pub some : 0 < length ty
-  pub fields : getD ty 0 0 ≡ 5 → 1 < length ty
-  pub values : 1 < length words
+  pub kind-word : 0 < length ty
+  pub type-count : getD ty 0 0 ≡ 5 → 1 < length ty
+  pub value-count : 1 < length words
 
 -- a record type with more fields than the record sheet has
 abbrev pub hasNext : (ty words : List ℕ) → Bool
@@ -47,8 +47,8 @@ pub record Asked (ty words pool lowWords lowPool highWords highPool : List ℕ) 
 
 -- 0 where the checks pass, else the number of the first that does not
 pub record Refuses (ty words pool lowWords lowPool highWords highPool : List ℕ) (r : ℕ) : Type 0 where
-  pub none : r ≡ 0 → Asked ty words pool lowWords lowPool highWords highPool
-  pub one : (r ≡ 0 → ⊥) → spanFor ty words pool lowWords lowPool highWords highPool ≡ refused r 0
+  pub passed : r ≡ 0 → Asked ty words pool lowWords lowPool highWords highPool
+  pub refusal : (r ≡ 0 → ⊥) → spanFor ty words pool lowWords lowPool highWords highPool ≡ refused r 0
 
 -- ---- the two ends
 

@@ -17,7 +17,7 @@ shared-slice-read-wide-word : tie.Need-shared-slice-read-wide-word
 shared-slice-read-wide-word c =
     let i = c .before .before in
     let s = i .before .before .before .before in
-    s .pre .fields (i .if1 .left)
+    s .pre .type-count (i .if1 .left)
 
 wide-word-requires : tie.Need-wide-word-requires
 wide-word-requires c κs = search needs

@@ -16,7 +16,7 @@ returns c =
     laws.s-sheets (a .ty .now) (a .words .now) (a .pool .now) (a .low-words .now) (a .low-pool .now) (a .high-words .now) (a .high-pool .now) (a .lower .now) (a .upper .now) (r .refused-by .ensures) (c .if1 .taken)
 
 measure-requires : tie.Need-measure-requires
-measure-requires c κs = c .before .refused-by .ensures .none (c .if1 .left)
+measure-requires c κs = c .before .refused-by .ensures .passed (c .if1 .left)
 
 enum-known-refusal : tie.Need-enum-known-refusal
 enum-known-refusal c = search needs
@@ -40,12 +40,12 @@ returns-3 c =
 put-end-requires : tie.Need-put-end-requires
 put-end-requires c κs =
     let i = c .before .before .before .before .before .before .before in
-    laws.m-count (i .before .refused-by .ensures .none (i .if1 .left))
+    laws.m-count (i .before .refused-by .ensures .passed (i .if1 .left))
 
 put-end-requires-2 : tie.Need-put-end-requires-2
 put-end-requires-2 c κs =
     let i = c .before .before .before .before .before .before .before .before .before .before .before in
-    laws.m-count (i .before .refused-by .ensures .none (i .if1 .left))
+    laws.m-count (i .before .refused-by .ensures .passed (i .if1 .left))
 
 sub-upper : tie.Need-sub-upper
 sub-upper c =
