@@ -212,12 +212,12 @@ fn rooms_last() {
     room_line(40, &[1, 60], &mut [0xeeu8; 5], &mut [0xeeu8; 6]);
 }
 
-// 2^40 is longer than 0 by six bytes.
+// 2^41 is longer than 0 by six bytes.
 fn long_upper() {
-    room_line(0, &[1, 0x100_0000_0000], &mut [0xeeu8; 4], &mut [0xeeu8; 4]);
+    room_line(0, &[1, 0x200_0000_0000], &mut [0xeeu8; 4], &mut [0xeeu8; 4]);
     room_line(
         0,
-        &[1, 0x100_0000_0000],
+        &[1, 0x200_0000_0000],
         &mut [0xeeu8; 4],
         &mut [0xeeu8; 11],
     );
