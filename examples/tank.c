@@ -1,5 +1,4 @@
-/* A tank's key, the zeros escaped in it, the ends of the range that holds this tank's keys alone, those of the batches 40 to 60 of the tank beside it, and those of
- * the names that begin as typed.
+/* A tank's key, the zeros escaped in it, the ends of the range that holds this tank's keys alone, and those of the batches 40 to 60 of the tank beside it.
  * cc -I include examples/tank.c target/staticlib/libtuple.a -o target/tank && target/tank */
 #include "tuple.h"
 #include <inttypes.h>
@@ -18,32 +17,6 @@ static void line(const char *name, const uint8_t *bytes, uint64_t n) {
 static bool below(const uint8_t *a, uint64_t n, const uint8_t *b, uint64_t m) {
     int order = memcmp(a, b, n < m ? n : m);
     return order < 0 || (order == 0 && n < m);
-}
-
-/* a key, and whether it lies between the ends */
-static void judge(const uint8_t *key, uint64_t n, const uint8_t *lower, const uint8_t *upper, tuple_ends ends) {
-    bool inside = !below(key, n, lower, ends.lower) && below(key, n, upper, ends.upper);
-    line("key", key, n);
-    printf("inside %s\n", inside ? "yes" : "no");
-}
-
-/* the names of tank 0A that begin with cy, and whether cyan, blue and a blank are among them */
-static uint32_t names(void) {
-    const uint32_t type[] = {5, 2, 3, 7, 2};        /* a record of 2: Bytes, an optional Str */
-    const uint64_t first[] = {5, 1, 3, 1}, name[] = {5, 2, 3, 1, 2, 4}, blank[] = {5, 2, 3, 1, 0};
-    const uint8_t tank[] = {0x0A};
-    uint8_t key[32], lower[32], upper[32];
-
-    tuple_ends ends = tuple_starting_with(type, 5, first, 4, tank, 1, (const uint8_t *)"cy", 2, lower, sizeof lower, upper, sizeof upper);
-    line("typed", lower, ends.lower);
-    line("up to", upper, ends.upper);
-    tuple_encoded written = tuple_encode_key(type, 5, name, 6, (const uint8_t *)"\x0A" "cyan", 5, key, sizeof key);
-    judge(key, written.length, lower, upper, ends);
-    written = tuple_encode_key(type, 5, name, 6, (const uint8_t *)"\x0A" "blue", 5, key, sizeof key);
-    judge(key, written.length, lower, upper, ends);
-    written = tuple_encode_key(type, 5, blank, 5, tank, 1, key, sizeof key);
-    judge(key, written.length, lower, upper, ends);
-    return ends.refusal;
 }
 
 int main(void) {
@@ -71,7 +44,9 @@ int main(void) {
     for (uint64_t n = 1; n <= 2; n++) {
         const uint64_t batch[] = {5, 2, 3, n, 1, 50};
         written = tuple_encode_key(type, 4, batch, 6, pool, n, key, sizeof key);
-        judge(key, written.length, lower, upper, ends);
+        line("key", key, written.length);
+        bool inside = !below(key, written.length, lower, ends.lower) && below(key, written.length, upper, ends.upper);
+        printf("inside %s\n", inside ? "yes" : "no");
     }
-    return (int)(ends.refusal ? ends.refusal : names());
+    return (int)ends.refusal;
 }

@@ -56,7 +56,7 @@ fn here() -> Vec<Call> {
 #[test]
 fn every_call() {
     let calls = declared();
-    assert!(calls.len() >= 38);
+    assert!(calls.len() >= 37);
     assert_eq!(here(), calls);
 }
 

@@ -5,9 +5,7 @@ use std::cmp::Ordering;
 use std::hash::{DefaultHasher, Hash, Hasher};
 use std::slice;
 use std::thread;
-use tuple::{
-    Refusal, Type, Value, bounds, check_key, compare, decode_key, decode_typed, encode_key, encode_typed, replace, span, starting_with,
-};
+use tuple::{Refusal, Type, Value, bounds, check_key, compare, decode_key, decode_typed, encode_key, encode_typed, replace, span};
 
 const DEEP: usize = 1_000_000;
 
@@ -77,7 +75,6 @@ fn refused(ty: &Type) {
     assert_eq!(check_key(ty, &key), Err(Refusal::BadType));
     assert_eq!(bounds(ty, &key, 0), Err(Refusal::BadType));
     assert_eq!(span(ty, &[], &Value::Null, &Value::Null), Err(Refusal::BadType));
-    assert_eq!(starting_with(ty, &[], b""), Err(Refusal::BadType));
     assert_eq!(replace(ty, &mut key, 0, &Value::Null), Err(Refusal::BadType));
 }
 
@@ -92,7 +89,7 @@ fn values() {
             assert!(nested(DEEP - 1, Value::Int(0), group) != value);
             shown_as(&format!("{value:?}"), before, "Int(0)", after);
             assert_eq!(compare(&Value::Null, &value), Err(Refusal::BadValue));
-            refused_range(&value);
+            refused_span(&value);
             refused_value(&nested(ADMITTED + 1, Value::Int(0), group));
         });
     }
@@ -108,16 +105,15 @@ fn refused_value(value: &Value) {
     assert_eq!(compare(value, &Value::Null), Err(Refusal::BadValue));
     assert_eq!(compare(&Value::Null, value), Err(Refusal::BadValue));
     assert_eq!(key, [0x53, 0x0A, 0x00, 0x49, 0x07]);
-    refused_range(value);
+    refused_span(value);
 }
 
-/// 16 of a span, whichever of its values it is, and of a beginning behind it.
-fn refused_range(value: &Value) {
+/// 16 of a span, whichever of its values it is.
+fn refused_span(value: &Value) {
     let (tank, first) = (Type::record([Type::Bytes, Type::Int]), [Value::from(b"\x0A")]);
     assert_eq!(span(&tank, slice::from_ref(value), &Value::Int(40), &Value::Int(60)), Err(Refusal::BadValue));
     assert_eq!(span(&tank, &first, value, &Value::Int(60)), Err(Refusal::BadValue));
     assert_eq!(span(&tank, &first, &Value::Int(40), value), Err(Refusal::BadValue));
-    assert_eq!(starting_with(&tank, slice::from_ref(value), b""), Err(Refusal::BadValue));
 }
 
 #[test]

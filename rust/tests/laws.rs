@@ -2,12 +2,12 @@
 
 mod common;
 
-use common::{Random, count, run, strings, zeros};
+use common::{Random, count, zeros};
 use std::borrow::Cow;
 use tuple::{
     Kind, Refusal, Type, Value, above_field, bounds, check_key, check_key_counted, compare, decode_key, decode_key_counted, decode_typed,
     decode_typed_counted, encode_key, encode_key_counted, encode_typed, encode_typed_counted, get_bytes, get_i64, get_str, get_u64,
-    put_bytes, put_fact_id, put_i64, put_str, put_u64, replace, skip, span, starting_with, strinc,
+    put_bytes, put_fact_id, put_i64, put_str, put_u64, replace, skip, span, strinc,
 };
 
 const CASES: usize = 20_000;
@@ -15,20 +15,6 @@ const CASES: usize = 20_000;
 fn fields(value: &Value) -> &[Value] {
     let Value::Record(fields) = value else { panic!("{value:?} is no record") };
     fields
-}
-
-/// The key of the first fields alone.
-fn key_of_first(types: &[Type], first: &[Value]) -> Vec<u8> {
-    encode_key(&Type::Record(types.to_vec()), &Value::Record(first.to_vec())).unwrap()
-}
-
-/// A record type, a value of it, and values near it with their keys, itself the last.
-fn neighbours(random: &mut Random) -> (Type, Value, Vec<(Value, Vec<u8>)>) {
-    let ty = random.record(3);
-    let value = random.value(&ty);
-    let near: Vec<Value> = (0..8).map(|_| random.near(&ty, &value)).chain([value.clone()]).collect();
-    let keyed = near.into_iter().map(|value| (value.clone(), encode_key(&ty, &value).unwrap())).collect();
-    (ty, value, keyed)
 }
 
 #[test]
@@ -122,13 +108,16 @@ fn a_span_holds_the_keys_with_the_same_first_fields_and_the_next_within_it_alone
     let mut seen = [[0; 2]; 6];
     let (mut upward, mut downward) = (0, 0);
     for _ in 0..CASES / 5 {
-        let (ty, a, near) = neighbours(&mut random);
+        let ty = random.record(3);
         let Type::Record(types) = &ty else { unreachable!() };
+        let a = random.value(&ty);
+        let values: Vec<Value> = (0..8).map(|_| random.near(&ty, &a)).chain([a.clone()]).collect();
+        let keys: Vec<Vec<u8>> = values.iter().map(|value| encode_key(&ty, value).unwrap()).collect();
         for (k, next) in types.iter().enumerate() {
             let first = &fields(&a)[..k];
             let [lowest, highest] = [(); 2].map(|()| random.near(next, &fields(&a)[k]));
             let range = span(&ty, first, &lowest, &highest).unwrap();
-            let before = key_of_first(&types[..k], first);
+            let before = encode_key(&Type::Record(types[..k].to_vec()), &Value::Record(first.to_vec())).unwrap();
             let [low, high] = [&lowest, &highest].map(|value| [&before[..], &encode_typed(next, value).unwrap()].concat());
             assert_eq!(range, low..above_field(&high));
 
@@ -137,7 +126,7 @@ fn a_span_holds_the_keys_with_the_same_first_fields_and_the_next_within_it_alone
                 Kind::Union => 2,
                 _ => 4,
             } + usize::from(matches!(next, Type::Optional(_)));
-            for (value, key) in &near {
+            for (value, key) in values.iter().zip(&keys) {
                 let field = &fields(value)[k];
                 let held = compare(&lowest, field).unwrap().is_le() && compare(field, &highest).unwrap().is_le();
                 let within = fields(value)[..k] == *first && held;
@@ -149,7 +138,7 @@ fn a_span_holds_the_keys_with_the_same_first_fields_and_the_next_within_it_alone
             *(if none { &mut downward } else { &mut upward }) += 1;
 
             let same = &fields(&a)[k];
-            assert_eq!(span(&ty, first, same, same), bounds(&ty, &near.last().unwrap().1, k + 1));
+            assert_eq!(span(&ty, first, same, same), bounds(&ty, keys.last().unwrap(), k + 1));
         }
         assert_eq!(span(&ty, fields(&a), &Value::Null, &Value::Null), Err(Refusal::NoField));
     }
@@ -157,49 +146,6 @@ fn a_span_holds_the_keys_with_the_same_first_fields_and_the_next_within_it_alone
         seen.as_flattened().iter().all(|n| *n > CASES / 50) && upward > downward && downward > CASES / 50,
         "{seen:?} {upward} {downward}"
     );
-}
-
-#[test]
-fn a_beginning_holds_the_keys_with_the_same_first_fields_and_the_next_that_begins_so_alone() {
-    let mut random = Random::new(12);
-    // keys within and without, by what the next field is: a Str, a Bytes; optional or not
-    let mut seen = [[0; 2]; 4];
-    let mut refused = 0;
-    for _ in 0..CASES / 5 {
-        let (ty, a, near) = neighbours(&mut random);
-        let Type::Record(types) = &ty else { unreachable!() };
-        for (k, next) in types.iter().enumerate() {
-            let first = &fields(&a)[..k];
-            let own = run(&fields(&a)[k]).unwrap_or_default();
-            let more = random.pick(&[&[][..], &[], &[0x00], &[0xC3], &[0xFF]]);
-            let start = [&own[..random.below(own.len() + 1)], more].concat();
-            let (kind, mark) = match next.kind() {
-                Kind::Str => (0, 0x21),
-                Kind::Bytes => (2, 0x53),
-                _ => {
-                    assert_eq!(starting_with(&ty, first, &start), Err(Refusal::NoField));
-                    refused += 1;
-                    continue;
-                }
-            };
-            let range = starting_with(&ty, first, &start).unwrap();
-            let mut low = key_of_first(&types[..k], first);
-            let place = low.len();
-            put_bytes(&mut low, &start);
-            low[place] = mark;
-            low.pop(); // the run's end
-            assert_eq!(range, low.clone()..strinc(&low).unwrap());
-
-            for (value, key) in &near {
-                let begins = run(&fields(value)[k]).is_some_and(|run| run.starts_with(&start));
-                let within = fields(value)[..k] == *first && begins;
-                assert_eq!(range.contains(key), within, "{value:?} {first:?} {start:?}");
-                seen[kind + usize::from(matches!(next, Type::Optional(_)))][usize::from(within)] += 1;
-            }
-        }
-        assert_eq!(starting_with(&ty, fields(&a), b""), Err(Refusal::NoField));
-    }
-    assert!(seen.as_flattened().iter().all(|n| *n > CASES / 100) && refused > CASES / 50, "{seen:?} {refused}");
 }
 
 #[test]
@@ -300,6 +246,21 @@ fn single_fields_are_those_of_the_encoder() {
         put_u64(&mut out, number);
         assert_eq!(get_u64(&out[before.len()..]), Ok((number, out.len() - before.len())));
     }
+}
+
+/// Every string of up to `most` of these bytes.
+fn strings(bytes: &[u8], most: usize) -> Vec<Vec<u8>> {
+    let mut all = vec![vec![]];
+    let mut from = 0;
+    for _ in 0..most {
+        let last = from..all.len();
+        from = all.len();
+        for at in last {
+            let longer = bytes.iter().map(|byte| [all[at].as_slice(), &[*byte]].concat());
+            all.extend(longer.collect::<Vec<_>>());
+        }
+    }
+    all
 }
 
 #[test]

@@ -3,11 +3,21 @@
 
 mod common;
 
-use common::{ends, nested};
+use common::nested;
 use std::collections::BTreeMap;
 use std::ops::Range;
 use std::slice;
 use tuple::{FactId, PredicateId, Refusal, Type, Value, bounds, encode_key, span};
+
+/// Bytes from hexadecimal.
+fn hex(text: &str) -> Vec<u8> {
+    text.split_whitespace().map(|pair| u8::from_str_radix(pair, 16).unwrap()).collect()
+}
+
+/// Two ends from hexadecimal.
+fn ends(lower: &str, upper: &str) -> Result<Range<Vec<u8>>, Refusal> {
+    Ok(hex(lower)..hex(upper))
+}
 
 /// A tag and a number.
 fn tank() -> Type {

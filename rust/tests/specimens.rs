@@ -2,12 +2,17 @@
 
 mod common;
 
-use common::{hex, nested};
+use common::nested;
 use std::cmp::Ordering;
 use tuple::{
     FactId, PredicateId, Refusal, Type, Value, above_field, bounds, compare, decode_key, decode_typed, encode_key, encode_typed, replace,
-    span, starting_with, strinc,
+    span, strinc,
 };
+
+/// A specimen's bytes, from hexadecimal.
+fn hex(text: &str) -> Vec<u8> {
+    text.split_whitespace().map(|pair| u8::from_str_radix(pair, 16).unwrap()).collect()
+}
 
 #[test]
 fn values_and_their_bytes() {
@@ -64,9 +69,6 @@ fn a_thread_with_256_kb_of_stack_is_enough_for_the_deepest() {
         let (_, field) = nested(256, Type::Int, Value::Int(1));
         replace(&ty, &mut key, 0, &field).unwrap();
         assert_eq!(span(&ty, &[], &field, &field).unwrap().start, key);
-        let Type::Record(types) = &ty else { unreachable!() };
-        let named = Type::record([types[0].clone(), Type::Str]);
-        assert_eq!(starting_with(&named, &[field], b"").unwrap().start, [&key[..], &[0x21]].concat());
         let (ty, value) = nested(320, Type::Int, Value::Int(0));
         assert_eq!(encode_key(&ty, &value), Err(Refusal::BadRecord));
         assert_eq!(compare(&value, &value), Ok(Ordering::Equal));

@@ -78,11 +78,6 @@ spans crates/tuple/src/keys.rt
 spans rust/src/lib.rs
 exact-call include/tuple.h
 exact-call crates/tuple/src/keys.rt
-prefixes include/tuple.h
-prefixes crates/tuple/src/keys.rt
-prefixes rust/src/lib.rs
-prefix-call include/tuple.h
-prefix-call crates/tuple/src/keys.rt
 scrolls include/tuple.h
 scrolls crates/tuple/src/reader.rt
 scrolls crates/chars/src/lib.rt

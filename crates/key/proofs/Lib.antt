@@ -1,11 +1,9 @@
--- Laws of passing over fields, of the splice, and of the calls.
+-- Laws of passing over fields, of the splice, and of the three calls.
 pub mod SpliceLaws
 pub mod PassLaws
 pub mod SpanLaws
 pub mod CallLaws
 pub mod ValueLaws
 pub mod EndLaws
-pub mod FirstsLaws
 pub mod SpanningLaws
-pub mod StartingLaws
 pub mod ListLaws

@@ -1,7 +1,5 @@
 -- What the contracts cite beside the calls of format.
 pub mod Passing
 pub mod Keys
-pub mod Firsts
 pub mod Spanning
-pub mod Starting
 pub mod Lists

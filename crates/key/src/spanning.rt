@@ -1,12 +1,33 @@
 // The span call: the two ends of the keys whose first k fields are equal and whose next lies from a lowest to a highest value.
 ghost use Rattle.std.specs.Prelude.{◌≡◌, ◌≤◌, length};
+ghost use Rattle.format.specs.ValueSheet.{value_of};
 ghost use Rattle.format.specs.Spans.{span_for, span_call};
 ghost use Rattle.key.specs.Keys.{bounded_of, BoundsLeft};
-ghost use Rattle.key.specs.Spanning.{Asked, Refuses, longs, PutsEnd};
+ghost use Rattle.key.specs.Spanning.{is_record, FirstWords, has_next, Asked, Refuses, longs, PutsEnd};
 
 use crate::bounding::Bounded;
-use crate::firsts;
 use fit::Fitted;
+
+// Is the sheet admitted, and a record? Then its second word is how many fields it has.
+fn admit_record(words: &[u64], pool: &[u8]) -> bool
+    ensures { result ≡ is_record (value_of words.now pool.now) }
+{
+    if !sheet::admit_value(words, pool) {
+        return false;
+    }
+    words[0] == format::VALUE_RECORD
+}
+
+// Is the type a record with a field behind the first k, k being the record sheet's count?
+fn has_next(ty: &[u32], words: &[u64]) -> bool
+    requires { FirstWords ty.now words.now }
+    ensures { result ≡ has_next ty.now words.now }
+{
+    if ty[0] != format::KIND_RECORD {
+        return false;
+    }
+    words[1] < format::wide_word(ty[1])
+}
 
 // What refuses the sheets, in the order given, and the field behind the first k; 0 where nothing does.
 fn refused_by(
@@ -23,7 +44,7 @@ fn refused_by(
     if !sheet::admit_type(ty) {
         return format::BAD_TYPE;
     }
-    if !firsts::admit_record(words, pool) {
+    if !admit_record(words, pool) {
         return format::BAD_VALUE;
     }
     if !sheet::admit_value(low_words, low_pool) {
@@ -32,7 +53,7 @@ fn refused_by(
     if !sheet::admit_value(high_words, high_pool) {
         return format::BAD_VALUE;
     }
-    if !firsts::has_next(ty, words) {
+    if !has_next(ty, words) {
         return format::NO_FIELD;
     }
     0

@@ -1,7 +1,6 @@
 // skip: bytes start flag = refusal detail end. compare: words pool words pool = refusal detail order. strinc, above_field: bytes room = refusal detail
 // length bytes. bounds: type key k room-of-lower room-of-upper = refusal detail lengths ends. span: type, words and pool of the first values, of the lowest
-// and of the highest, room-of-lower room-of-upper = refusal detail lengths ends. starting_with: type, words and pool of the first values, bytes, room-of-lower
-// room-of-upper = refusal detail lengths ends. replace: type buffer used field words pool = refusal detail length buffer.
+// and of the highest, room-of-lower room-of-upper = refusal detail lengths ends. replace: type buffer used field words pool = refusal detail length buffer.
 use crate::answers;
 use tuple::answers::{Ends, Order};
 use tuple::keys;
@@ -147,39 +146,12 @@ fn with_first(line: &[u8], ty: &[u32], words: &[u64], pool: &[u8]) -> bool {
     with_lowest(line, ty, words, pool, &lowest_words[..w], &lowest_pool[..p])
 }
 
-fn with_start(line: &[u8], ty: &[u32], words: &[u64], pool: &[u8], start: &[u8]) -> bool {
-    let mut lower = answers::lent();
-    let mut upper = answers::lent();
-    let low = answers::room(line, 5, &lower);
-    let high = answers::room(line, 6, &upper);
-    let a = keys::tuple_starting_with(
-        ty,
-        words,
-        pool,
-        start,
-        &mut lower[..low],
-        &mut upper[..high],
-    );
-    bounded(line, 8, a, &lower, &upper)
-}
-
-fn starting(line: &[u8], ty: &[u32], words: &[u64], pool: &[u8]) -> bool {
-    let mut start = [0; 72000];
-    let s = lines::bytes(line, 4, &mut start);
-    with_start(line, ty, words, pool, &start[..s])
-}
-
-// Behind the first values, a span or what begins with some bytes.
-pub fn span(line: &[u8], begins: bool, ty: &[u32]) -> bool {
+pub fn span(line: &[u8], ty: &[u32]) -> bool {
     let mut words = [0; 8192];
     let mut pool = [0; 72000];
     let w = lines::words(line, 2, &mut words);
     let p = lines::bytes(line, 3, &mut pool);
-    if begins {
-        starting(line, ty, &words[..w], &pool[..p])
-    } else {
-        with_first(line, ty, &words[..w], &pool[..p])
-    }
+    with_first(line, ty, &words[..w], &pool[..p])
 }
 
 // The whole buffer stands in the answer, also where the call is refused.

@@ -11,10 +11,10 @@ ghost use Rattle.std.specs.Prelude.{◌≡◌, length};
 ghost use Rattle.lines.specs.Counts.{Counts};
 
 // The names of the calls, of which each call's number is the place.
-fn names() -> [u8; 368]
-    ensures { 368 ≡ length result }
+fn names() -> [u8; 354]
+    ensures { 354 ≡ length result }
 {
-    *b"encode_typed encode_key decode_typed decode_key check_key skip compare strinc above_field bounds replace get_i64 get_u64 get_str get_bytes put_i64 put_u64 put_fact_id put_str put_bytes take_null take_i64 take_u64 take_fact_id open_record open_union close is_record_end take_str take_bytes put_null put_record put_end put_union chars_next chars names span starting_with"
+    *b"encode_typed encode_key decode_typed decode_key check_key skip compare strinc above_field bounds replace get_i64 get_u64 get_str get_bytes put_i64 put_u64 put_fact_id put_str put_bytes take_null take_i64 take_u64 take_fact_id open_record open_union close is_record_end take_str take_bytes put_null put_record put_end put_union chars_next chars names span"
 }
 
 // The calls whose first arguments are a type and bytes.
@@ -37,8 +37,7 @@ fn of_type(call: usize, line: &[u8]) -> bool {
         0 => sheets::encode(line, false, &ty[..t]),
         1 => sheets::encode(line, true, &ty[..t]),
         10 => keys::replace(line, &ty[..t]),
-        37 => keys::span(line, false, &ty[..t]),
-        38 => keys::span(line, true, &ty[..t]),
+        37 => keys::span(line, &ty[..t]),
         _ => of_key(call, line, &ty[..t]),
     }
 }
@@ -72,7 +71,7 @@ fn of_bytes(call: usize, line: &[u8]) -> bool {
 fn agrees(call: usize, line: &[u8]) -> bool {
     match call {
         6 => keys::compare(line),
-        0..=4 | 9 | 10 | 37 | 38 => of_type(call, line),
+        0..=4 | 9 | 10 | 37 => of_type(call, line),
         15..=19 => fields::put(line, call),
         30..=32 => cursors::put(line, call),
         33 => cursors::put_union(line),
@@ -91,17 +90,17 @@ fn judge(line: &[u8]) -> usize {
     show::text(b"differs: ");
     show::text(line);
     show::text(b"\n");
-    39
+    38
 }
 
 // How many lines of each call agree.
-fn counts(text: &[u8]) -> [u64; 40] {
-    let mut counts = [0; 40];
+fn counts(text: &[u8]) -> [u64; 39] {
+    let mut counts = [0; 39];
     let mut at = 0;
     while at < text.len() {
         let end = lines::find(text, at, b'\n');
         let call = judge(&text[at..end]);
-        if call < 40 {
+        if call < 39 {
             counts[call] = std::num::wrapping_add_u64(counts[call], 1);
         }
         at = end + 1;
@@ -109,9 +108,9 @@ fn counts(text: &[u8]) -> [u64; 40] {
     counts
 }
 
-fn totals(counts: [u64; 40]) {
+fn totals(counts: [u64; 39]) {
     let list = names();
-    for i in 0..39 {
+    for i in 0..38 {
         show::text(lines::field(&list, i));
         show::text(b" ");
         show::number(counts[i]);

@@ -1,7 +1,7 @@
 -- Escaped runs, their payloads and reading them, byte by byte.
 use Rattle.std.proofs.Common.{◌≡◌, ℕ, suc, ◌+◌, ◌*◌, ◌<◌, ◌≤◌, true, false, eqb, List, [], ◌∷◌, length, take, drop, sym, refl, ap, ◌∙◌, arith, eq-eqb, ne_eqb, eqb-true}
 use borrow.Author.Tests.{eqb-false}
-use Rattle.format.specs.Scalar.{escaped, run_start}
+use Rattle.format.specs.Scalar.{escaped}
 use Rattle.format.specs.Read.{Read, got, bad, cons_read, get_run, after_zero}
 use Rattle.format.specs.Fields.{has_zero}
 use Rattle.format.specs.Zeros.{zeros}
@@ -13,17 +13,17 @@ use Rattle.scalar.proofs.Reading.{no_got}
 
 -- ---- a payload as a run
 
-pub start_none : run_start [] ≡ []
-unfolding run_start
-start_none = refl
+pub escaped_none : escaped [] ≡ 0 ∷ []
+unfolding escaped
+escaped_none = refl
 
-pub start_byte : (b : ℕ) (t : List ℕ) → (b ≡ 0 → ⊥) → run_start (b ∷ t) ≡ b ∷ run_start t
-unfolding run_start
-start_byte b t h = rw (ne_eqb _ _ h)
+pub escaped_byte : (b : ℕ) (t : List ℕ) → (b ≡ 0 → ⊥) → escaped (b ∷ t) ≡ b ∷ escaped t
+unfolding escaped
+escaped_byte b t h = rw (ne_eqb _ _ h)
 
-pub start_zero : (b : ℕ) (t : List ℕ) → b ≡ 0 → run_start (b ∷ t) ≡ 0 ∷ 0xFF ∷ run_start t
-unfolding run_start
-start_zero b t h = rw (eq-eqb _ _ h)
+pub escaped_zero : (b : ℕ) (t : List ℕ) → b ≡ 0 → escaped (b ∷ t) ≡ 0 ∷ 0xFF ∷ escaped t
+unfolding escaped
+escaped_zero b t h = rw (eq-eqb _ _ h)
 
 pub escaped_bounds : (s : List ℕ) → (length s + 1 ≤ length (escaped s)) × (length (escaped s) ≤ 2 * length s + 1)
 escaped_bounds s = let l = escaped_long s in let z = zeros_le s in (omega arith, omega arith)

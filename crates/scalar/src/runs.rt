@@ -1,30 +1,23 @@
 // Escaped runs: each 00 of the payload is written 00 FF, and a 00 not followed by FF ends the run.
 ghost use Rattle.std.specs.Prelude.{◌≡◌, ◌+◌, ◌≤◌, length, drop};
-ghost use Rattle.format.specs.Scalar.{escaped, run_start};
+ghost use Rattle.format.specs.Scalar.{escaped};
 ghost use Rattle.format.specs.Utf8.{utf8};
 ghost use Rattle.format.specs.Read.{marked, get_run};
 ghost use Rattle.format.specs.Fields.{put};
 ghost use Rattle.scalar.specs.Runs.{WritesRun, measured, run_end, marked_by, unescape};
 
-// How many bytes the run of a payload has before its end: its own, and one more for each zero.
-pub fn start_len(payload: &[u8]) -> usize
-    ensures { result ≡ length (run_start payload.now) }
-{
-    let zeros = blocks::count_zeros(payload);
-    payload.len() + zeros
-}
-
-// How many bytes the run has with its end.
+// How many bytes the run of a payload has: its own, one more for each zero, and the end.
 pub fn escaped_len(payload: &[u8]) -> usize
     ensures { result ≡ length (escaped payload.now) }
 {
-    start_len(payload) + 1
+    let zeros = blocks::count_zeros(payload);
+    payload.len() + zeros + 1
 }
 
-// Writes what is left of a payload from a place in it on, each zero escaped, and returns the place behind it.
+// Writes what is left of a payload from a place in it on as a run, and returns the place behind it.
 fn write_rest(buf: &mut [u8], at: usize, payload: &[u8], from: usize) -> usize
-    requires { (from ≤ length payload.now) × (at + length (run_start (drop from payload.now)) ≤ length buf.old) }
-    ensures { (result ≡ at + length (run_start (drop from payload.now))) × (buf.new ≡ put buf.old at (run_start (drop from payload.now))) }
+    requires { (from ≤ length payload.now) × (at + length (escaped (drop from payload.now)) ≤ length buf.old) }
+    ensures { (result ≡ at + length (escaped (drop from payload.now))) × (buf.new ≡ put buf.old at (escaped (drop from payload.now))) }
 {
     let mut o: usize = at;
     let mut i: usize = from;
@@ -41,16 +34,8 @@ fn write_rest(buf: &mut [u8], at: usize, payload: &[u8], from: usize) -> usize
         o += 1;
         i = z + 1;
     }
-    o
-}
-
-// Writes a payload as a run from a place on, before the run's end, and returns the place behind it. Long bytes before the first zero go in one pass.
-pub fn write_start(buf: &mut [u8], at: usize, payload: &[u8]) -> usize
-    requires { at + length (run_start payload.now) ≤ length buf.old }
-    ensures { (result ≡ at + length (run_start payload.now)) × (buf.new ≡ put buf.old at (run_start payload.now)) }
-{
-    let i = blocks::copy_clear(buf, at, payload);
-    write_rest(buf, at + i, payload, i)
+    buf[o] = format::MARK_TERM;
+    o + 1
 }
 
 // The place behind what was written, and how many zeros were escaped in it.
@@ -60,15 +45,14 @@ pub struct Written {
     pub zeros: usize,
 }
 
-// Writes a payload as a run from a place on. What the run has beside the payload and its end are the escapes.
+// Writes a payload as a run from a place on. Long bytes before the first zero go in one pass. What the run has beside the payload and its end are the escapes.
 pub fn write_escaped(buf: &mut [u8], at: usize, payload: &[u8]) -> Written
     requires { at + length (escaped payload.now) ≤ length buf.old }
     ensures { WritesRun buf.old at payload.now result buf.new }
 {
-    let place = write_start(buf, at, payload);
-    buf[place] = format::MARK_TERM;
-    let end = place + 1;
-    let zeros = place - at - payload.len();
+    let i = blocks::copy_clear(buf, at, payload);
+    let end = write_rest(buf, at + i, payload, i);
+    let zeros = end - at - payload.len() - 1;
     Written { end, zeros }
 }
 

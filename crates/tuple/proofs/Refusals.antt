@@ -3,17 +3,16 @@ use mathlib.Core.Bool.{Bool, true, false, ◌||◌, ◌&&◌}
 use mathlib.Core.List.{List, [], ◌∷◌}
 use mathlib.Core.Option.{Option, some, none}
 use Prim.Native.Nat.{ℕ, zero, suc, ◌+◌, ◌-◌, ◌^◌}
-use native.Mathlib.Omega.{arith}
 use lib.Dec.{T, ltb, leb, eqb, lit<, lit≤}
 use lib.ListN.{length, take, drop}
-use Rattle.format.specs.Answer.{if, Answer, ok, refused, and_then, no_room, BadRecord, BadString, NoField}
-use Rattle.format.specs.Tree.{Ty, Tys, Alts, Val, Vals, val_kind, fields_in}
+use Rattle.format.specs.Answer.{if, Answer, ok, refused, and_then, no_room, BadRecord, TypeMismatch, BadString, NoField}
+use Rattle.format.specs.Tree.{Ty, Tys, Alts, Val, Vals, val_kind, number_in, fields_in, payload_in}
 use Rattle.format.specs.Sheet.{field_count, val_count, val_words, val_pool}
 use Rattle.format.specs.TypeSheet.{type_of}
 use Rattle.format.specs.ValueSheet.{value_of}
-use Rattle.format.specs.Scalar.{width as int_width, int_bytes, uint_bytes, str_bytes, bytes_bytes, ref_bytes, sequence_of, tag_bytes}
+use Rattle.format.specs.Scalar.{width as int_width, int_bytes, uint_bytes, str_bytes, bytes_bytes, ref_bytes, sequence_of, predicate_of, tag_bytes}
 use Rattle.format.specs.Utf8.{utf8}
-use Rattle.format.specs.Encode.{null_bytes, vals_bytes, max_depth, max_key_bytes, of_kind, fits_ref, fits, fits_all, encode, encode_typed, key_bytes, encode_key}
+use Rattle.format.specs.Encode.{null_bytes, vals_bytes, max_depth, max_key_bytes, fine, of_kind, in_union, fits_ref, group_at, fits, fits_all, fits_union, encode, encode_typed, key_bytes, encode_key}
 use Rattle.format.specs.Read.{Read, then_read, get_big, width_is, get_uint, get_neg, get_int, starts_ff, ends_here, cons_read, get_run, after_zero, marked, get_str, get_bytes, ref_read, get_ref, get_fact_id}
 use Rattle.format.specs.Decode.{Decoded, scalar, after, both, union_end, opened, with_tag, blank_or, decode, decode_group, decode_union, decode_bare, whole, decode_typed, decode_key}
 use Rattle.format.specs.Skip.{pass_bytes, pass_field, turn, walk, skip, end_of, skip_from}
@@ -22,9 +21,7 @@ use Rattle.format.specs.Bounds.{raised_or, trimmed, strinc, above_field, first_b
 use Rattle.format.specs.Replace.{set_field, spliced}
 use Rattle.format.specs.Calls as calls
 use Rattle.format.specs.Calls.{with_type, with_value, written, filled, decoded_by, checked_by, TwoEnds, both_ends, bounded, with_fields, with_key, replaced, with_used}
-use Rattle.format.specs.Spans.{with_record, first_tys, field_type, with_next, span_of, span_for, span_call, run_mark, start_end, prefix_of, prefix_for, prefix_call}
-use Rattle.format.proofs.FitNumbers as fit
-use Rattle.format.proofs.FitNumbers.{Numbers, refs}
+use Rattle.format.specs.Spans.{with_record, first_tys, field_type, with_next, span_of, span_for, span_call}
 use Rattle.format.specs.Fields as fields
 use Rattle.format.specs.Fields.{taken_from, placed_from, has_zero, put_at}
 use Rattle.tuple.specs.Numbers.{last_refusal, Listed, Numbered, RefusalsNumbered}
@@ -123,13 +120,9 @@ bytes : (bs : List ℕ) → Reads (get_bytes bs)
 unfolding get_bytes
 bytes bs = mark 0x53 _ bs run
 
--- what refuses a value under a type has such a number
-fit_listed : {A : Type 0} (a : Answer A) → Numbers a → Numbered a
-fit_listed (ok a) p = tt
-fit_listed (refused n d) p = record { some = omega (arith, p.from); known = omega (arith, p.to) }
-
 fits_ref_lem : (p r : ℕ) → Numbered (fits_ref p r)
-fits_ref_lem p r = fit_listed (fits_ref p r) (refs p r)
+unfolding fits_ref
+fits_ref_lem p r = numbered_if (eqb (sequence_of r) 0) _ _ (listed tt tt) (numbered_if (eqb (predicate_of r) p) _ _ tt (listed tt tt))
 
 judged : (r : ℕ) (more : List ℕ) (a : Answer Unit) → Numbered a → Reads (ref_read r more a)
 judged r more (ok u) p = tt
@@ -222,11 +215,36 @@ key (Ty.Optional t) bs = wholes _ (decodes (Ty.Optional t) 0 bs)
 kinds : (k : ℕ) (v : Val) (a : Answer Unit) → Numbered a → Numbered (of_kind k v a)
 kinds k v a p = numbered_if (eqb (val_kind v) k) _ _ p (listed tt tt)
 
-fitting : (t : Ty) (depth : ℕ) (v : Val) → Numbered (fits t depth v)
-fitting t depth v = fit_listed (fits t depth v) (fit.fitting t depth v)
+groups : {A : Type 0} (depth : ℕ) (a : Answer A) → Numbered a → Numbered (group_at depth a)
+groups depth a p = numbered_if (ltb depth max_depth) _ _ p (listed tt tt)
 
-fitting_all_lem : (ts : Tys) (depth : ℕ) (vs : Vals) → Numbered (fits_all ts depth vs)
-fitting_all_lem ts depth vs = fit_listed (fits_all ts depth vs) (fit.fitting_all_lem ts depth vs)
+unions : {A : Type 0} (tag : ℕ) (a : Answer A) → Numbered a → Numbered (in_union tag a)
+unfolding in_union
+unions tag (ok a) p = tt
+unions tag (refused n d) p = numbered_if (eqb n BadRecord) _ _ (listed tt tt) (numbered_if (eqb n TypeMismatch) _ _ (listed tt tt) p)
+
+mutual
+  unfolding fits
+
+  fitting : (t : Ty) (depth : ℕ) (v : Val) → Numbered (fits t depth v)
+  fitting Ty.Int depth v = kinds 1 v fine tt
+  fitting Ty.Str depth v = kinds 2 v fine tt
+  fitting Ty.Bytes depth v = kinds 3 v fine tt
+  fitting (Ty.Ref p) depth v = kinds 4 v (fits_ref p (number_in v)) (fits_ref_lem p (number_in v))
+  fitting (Ty.Record ts) depth v = kinds 5 v _ (numbered_if (eqb (field_count ts) (val_count (fields_in v))) _ _ (groups depth (fits_all ts (depth + 1) (fields_in v)) (fitting_all ts (depth + 1) (fields_in v))) (listed tt tt))
+  fitting (Ty.Union alts) depth v = kinds 6 v _ (fitting_union alts depth (number_in v) (payload_in v))
+  fitting (Ty.Optional t) depth v = numbered_if (eqb (val_kind v) 0) fine (fits t depth v) tt (fitting t depth v)
+
+  fitting_all : (ts : Tys) (depth : ℕ) (vs : Vals) → Numbered (fits_all ts depth vs)
+  fitting_all Tys.NoTy depth Vals.NoVal = tt
+  fitting_all Tys.NoTy depth (Vals.AddVal v vs) = listed tt tt
+  fitting_all (Tys.AddTy t ts) depth Vals.NoVal = listed tt tt
+  fitting_all (Tys.AddTy t ts) depth (Vals.AddVal v vs) = numbered_then (fits t depth v) _ (fitting t depth v) (λ u. fitting_all ts depth vs)
+
+  fitting_union : (alts : Alts) (depth disc : ℕ) (v : Val) → Numbered (fits_union alts depth disc v)
+  fitting_union Alts.NoAlt depth disc v = listed tt tt
+  fitting_union (Alts.AddAlt e t alts) depth disc v =
+      numbered_if (eqb e disc) _ _ (unions disc _ (groups depth (fits t (depth + 1) v) (fitting t (depth + 1) v))) (fitting_union alts depth disc v)
 
 encodes : (t : Ty) (v : Val) → Numbered (encode_typed t v)
 unfolding encode
@@ -241,7 +259,7 @@ key_bytes_lem (Ty.Ref p) v = encodes (Ty.Ref p) v
 key_bytes_lem (Ty.Record ts) v =
     let counted : Answer Unit = if (eqb (field_count ts) (val_count (fields_in v))) (fits_all ts 0 (fields_in v)) (refused BadRecord 0) in
     numbered_then (of_kind 5 v counted) (λ u. ok (vals_bytes 0 (fields_in v)))
-    (kinds 5 v counted (numbered_if (eqb (field_count ts) (val_count (fields_in v))) (fits_all ts 0 (fields_in v)) (refused BadRecord 0) (fitting_all_lem ts 0 (fields_in v)) (listed tt tt)))
+    (kinds 5 v counted (numbered_if (eqb (field_count ts) (val_count (fields_in v))) (fits_all ts 0 (fields_in v)) (refused BadRecord 0) (fitting_all ts 0 (fields_in v)) (listed tt tt)))
     (λ u. tt)
 key_bytes_lem (Ty.Union alts) v = encodes (Ty.Union alts) v
 key_bytes_lem (Ty.Optional t) v = encodes (Ty.Optional t) v
@@ -426,16 +444,10 @@ unfolding span_for
 spans_numbered ty words pool low_words low_pool high_words high_pool =
     typed (type_of ty) _ (λ t. recorded (value_of words pool) _ (λ vs. valued (value_of low_words low_pool) _ (λ lo. valued (value_of high_words high_pool) _ (λ hi.
     next_of t (val_count vs) (span_of vs lo hi) (λ ts u.
-    numbered_then (fits_all ts 0 vs) _ (fitting_all_lem ts 0 vs) (λ a. numbered_then (fits u 0 lo) _ (fitting u 0 lo) (λ b. numbered_then (fits u 0 hi) _ (fitting u 0 hi) (λ c. tt))))))))
-
-prefixes_numbered : (ty words pool s : List ℕ) → Numbered (prefix_for ty words pool s)
-unfolding prefix_for strinc
-prefixes_numbered ty words pool s =
-    typed (type_of ty) _ (λ t. recorded (value_of words pool) _ (λ vs. next_of t (val_count vs) (prefix_of vs s) (λ ts u.
-    numbered_if (eqb (run_mark u) 0) _ _ (listed tt tt) (numbered_then (fits_all ts 0 vs) _ (fitting_all_lem ts 0 vs) (λ a. numbered_then (strinc (start_end vs (run_mark u) s)) _ (raises (trimmed (start_end vs (run_mark u) s))) (λ high. tt))))))
+    numbered_then (fits_all ts 0 vs) _ (fitting_all ts 0 vs) (λ a. numbered_then (fits u 0 lo) _ (fitting u 0 lo) (λ b. numbered_then (fits u 0 hi) _ (fitting u 0 hi) (λ c. tt))))))))
 
 pub refusals_numbered : RefusalsNumbered
-unfolding calls.encode_typed_call calls.encode_key_call calls.decode_typed_call calls.decode_key_call calls.check_key_call calls.skip_call calls.compare_call calls.strinc_call strinc calls.above_field_call calls.bounds_call span_call prefix_call calls.replace_call
+unfolding calls.encode_typed_call calls.encode_key_call calls.decode_typed_call calls.decode_key_call calls.check_key_call calls.skip_call calls.compare_call calls.strinc_call strinc calls.above_field_call calls.bounds_call span_call calls.replace_call
     fields.get_i64_call fields.get_u64_call fields.get_str_call fields.get_bytes_call fields.put_i64_call fields.put_u64_call fields.put_str_call fields.put_bytes_call fields.put_fact_id_call
 refusals_numbered =
     record {
@@ -453,7 +465,6 @@ refusals_numbered =
           (with_key_of_lem ty bs (λ ts. leb k (field_count ts)) (λ ts vs. ok (first_bytes k vs)) (λ ts vs. tt));
       span = λ ty words pool low_words low_pool high_words high_pool lower upper.
           two_ends lower upper (span_for ty words pool low_words low_pool high_words high_pool) (spans_numbered ty words pool low_words low_pool high_words high_pool);
-      starting_with = λ ty words pool s lower upper. two_ends lower upper (prefix_for ty words pool s) (prefixes_numbered ty words pool s);
       replace = λ ty buffer used field words pool.
           writes buffer (with_type (type_of ty) (λ t. with_fields t (field_of buffer used field words pool))) (replaces ty buffer used field words pool);
       get_i64 = λ bs. takes bs (get_int bs) (int bs);

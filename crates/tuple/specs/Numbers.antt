@@ -7,7 +7,7 @@ use Rattle.format.specs.Calls as calls
 use Rattle.format.specs.Fields as fields
 use Rattle.format.specs.Fields.{Taken, Place, in_key, in_scratch, Payload}
 use Rattle.format.specs.Zeros.{zeros}
-use Rattle.format.specs.Spans.{span_call, prefix_call}
+use Rattle.format.specs.Spans.{span_call}
 use Rattle.decode.specs.declared.Decoded.{Decoded}
 use Rattle.decode.specs.declared.CheckedKey.{CheckedKey}
 use Rattle.decode.specs.Answers as decode
@@ -147,7 +147,6 @@ pub record RefusalsNumbered : Type 0 where
   pub above_field : (key out : List ℕ) → Numbered (calls.above_field_call key out).answer
   pub bounds : (ty key : List ℕ) (k : ℕ) (lower upper : List ℕ) → Numbered (calls.bounds_call ty key k lower upper).answer
   pub span : (ty words pool low_words low_pool high_words high_pool lower upper : List ℕ) → Numbered (span_call ty words pool low_words low_pool high_words high_pool lower upper).answer
-  pub starting_with : (ty words pool s lower upper : List ℕ) → Numbered (prefix_call ty words pool s lower upper).answer
   pub replace : (ty buffer : List ℕ) (used field : ℕ) (words pool : List ℕ) → Numbered (calls.replace_call ty buffer used field words pool).answer
   pub get_i64 : (bytes : List ℕ) → Numbered (fields.get_i64_call bytes)
   pub get_u64 : (bytes : List ℕ) → Numbered (fields.get_u64_call bytes)

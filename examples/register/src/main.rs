@@ -1,7 +1,7 @@
 //! The register in a real ordered store: tanks, batches, recipe lines and doses as keys in LevelDB. It shows how a search that ends at strinc loses a batch
 //! and one by the bounds call does not, replaces fields in stored keys, finds the recipe lines without a supplier's lot, checks that the store's order is the order
-//! of the values, counts the rows that a search for a prefix reads by its upper end, lists tank tags by the zeros escaped in their keys, finds the batches
-//! of a tank from a number to another and other spans on one field, and finds colour names by their beginning.
+//! of the values, counts the rows that a search for a prefix reads by its upper end, lists tank tags by the zeros escaped in their keys, and finds the batches
+//! of a tank from a number to another and other spans on one field.
 
 mod leveldb;
 mod tables;
@@ -11,7 +11,7 @@ use std::collections::{BTreeMap, BTreeSet};
 use std::error::Error;
 use std::path::Path;
 use std::process::ExitCode;
-use tables::{Table, Tables, batch, colour, dose, field, fields, hex, line, lot, shown};
+use tables::{Table, Tables, batch, dose, field, fields, hex, line, lot, shown};
 use tuple::{FactId, PredicateId, Type, Value, compare, encode_key_counted, strinc};
 
 type Answer<T> = Result<T, Box<dyn Error>>;
@@ -55,15 +55,6 @@ const LOTS: [(Option<&str>, &str, i64); 7] = [
 
 /// Batches that planners look up by tank and number.
 const ASKED: [(&[u8], &[i64]); 2] = [(b"\x0A", &[39, 40, 50, 60, 61]), (b"\x0A\x00", &[39, 40, 45, 60, 61])];
-
-/// The names of a tank's colour; the first tank has one line without a name. Tank 0A is beside it.
-const COLOURS: [(&[u8], &[Option<&str>]); 2] = [
-    (
-        b"\x0A\x00",
-        &[None, Some(""), Some("c"), Some("cyan"), Some("cyan\0matt"), Some("cyan 5"), Some("cyan blue"), Some("écru"), Some("éosine")],
-    ),
-    (b"\x0A", &[Some("cadmium"), Some("citron"), Some("cyan")]),
-];
 
 /// The checks made, and how many failed.
 #[derive(Default)]
@@ -230,15 +221,9 @@ fn lost_batch(store: &Store, tables: &Tables, batches: &BTreeMap<FactId, Value>,
     Ok(())
 }
 
-/// The reference of the batch that holds cyan.
-fn cyan_batch(batches: &BTreeMap<FactId, Value>) -> Answer<FactId> {
-    let (id, _) = batches.iter().find(|(_, value)| **value == batch(b"\x0A\x00", 18)).ok_or("batch 18 is missing")?;
-    Ok(*id)
-}
-
 fn scans(store: &Store, tables: &Tables, batches: &BTreeMap<FactId, Value>, checks: &mut Checks) -> Answer<()> {
-    let cyan = cyan_batch(batches)?;
-    let grams = |recipe, number| dose(cyan, recipe, Value::union(1, Value::Int(number)));
+    let (cyan, _) = batches.iter().find(|(_, value)| **value == batch(b"\x0A\x00", 18)).ok_or("batch 18 is missing")?;
+    let grams = |recipe, number| dose(*cyan, recipe, Value::union(1, Value::Int(number)));
     let mut rows = Vec::new();
     for (what, table, like, k) in [
         ("every tank", &tables.tanks, Value::record([Value::from(b"")]), 0),
@@ -262,8 +247,8 @@ fn scans(store: &Store, tables: &Tables, batches: &BTreeMap<FactId, Value>, chec
 }
 
 fn replacements(store: &Store, tables: &Tables, batches: &BTreeMap<FactId, Value>, checks: &mut Checks) -> Answer<()> {
-    let cyan = cyan_batch(batches)?;
-    let grams = |number| dose(cyan, "cyan", Value::union(1, Value::Int(number)));
+    let (cyan, _) = batches.iter().find(|(_, value)| **value == batch(b"\x0A\x00", 18)).ok_or("batch 18 is missing")?;
+    let grams = |number| dose(*cyan, "cyan", Value::union(1, Value::Int(number)));
     let elsewhere = FactId::new(PredicateId(3), 1).ok_or("no reference")?;
     let before = FactId::from_raw((2 << 32) + 5); // 2:5 while both halves had 32 bits
     let long = "x".repeat(65_530);
@@ -582,8 +567,8 @@ fn spans(store: &Store, tables: &Tables, batches: &BTreeMap<FactId, Value>, chec
         &rows,
     );
 
-    let cyan = cyan_batch(batches)?;
-    let dosed = [Value::from(cyan), Value::from("cyan")];
+    let (cyan, _) = batches.iter().find(|(_, value)| **value == batch(b"\x0A\x00", 18)).ok_or("batch 18 is missing")?;
+    let dosed = [Value::from(*cyan), Value::from("cyan")];
     let (second, nameless) = ([Value::from("cyan"), Value::Int(2)], [Value::from(""), Value::Int(1)]);
     let part = |tag: &[u8], grams| Value::record([Value::from(tag), Value::Int(grams)]);
     let (grams, note) = (|number| Value::union(1, Value::Int(number)), |text: &str| Value::union(2, Value::from(text)));
@@ -611,97 +596,6 @@ fn spans(store: &Store, tables: &Tables, batches: &BTreeMap<FactId, Value>, chec
     Ok(())
 }
 
-/// What the search for a beginning finds, whether reading all and looking at the values' bytes finds the same, and what each of the wrong searches finds.
-fn begun(store: &Store, table: &Table, first: &[Value], start: &[u8]) -> Answer<(Vec<Value>, bool, [Vec<Value>; 3])> {
-    let begins = |value: &Value| match value {
-        Value::Str(text) => text.as_bytes().starts_with(start),
-        Value::Bytes(bytes) => bytes.starts_with(start),
-        _ => false,
-    };
-    let (k, mut due) = (first.len(), found(store, table, &table.whole())?);
-    due.retain(|value| fields(value)[..k] == *first && begins(field(value, k)));
-    let [ended, above, unescaped] = table.starting_wrong(first, start)?;
-    let wrong = [found(store, table, &ended)?, found(store, table, &above)?, found(store, table, &unescaped)?];
-    let found = found(store, table, &table.starting_with(first, start)?)?;
-    let same = found == due;
-    Ok((found, same, wrong))
-}
-
-/// The names of tank 0A 00 by what an operator types, as they stand in the store.
-fn names(store: &Store, tables: &Tables, checks: &mut Checks) -> Answer<()> {
-    let lines = COLOURS.iter().flat_map(|(tag, names)| names.iter().map(|name| colour(tag, *name)));
-    let changes: Answer<Vec<Change>> = lines.map(|value| Ok(Change::Put(tables.colours.stored(&value)?, vec![]))).collect();
-    store.write(&changes?)?;
-
-    let told = |values: &[Value]| match values {
-        [] => "none".to_owned(),
-        _ => values.iter().map(|value| shown(field(value, 1))).collect::<Vec<_>>().join(", "),
-    };
-    let first = [Value::from(b"\x0A\x00")];
-    let mut rows = Vec::new();
-    for start in [&b""[..], b"c", b"cy", b"cyan", b"cyan ", b"cyan\0", b"CYAN", b"\xC3", b"\xC3\xA9c"] {
-        let ends = tables.colours.starting_with(&first, start)?;
-        let (found, same, [ended, ..]) = begun(store, &tables.colours, &first, start)?;
-        rows.push(vec![
-            format!("\"{}\"", start.escape_ascii()),
-            hex(&ends.start[4..]),
-            hex(&ends.end[4..]),
-            told(&found),
-            checks.yes(same).to_owned(),
-            told(&ended),
-        ]);
-    }
-    table(
-        "12. The names of tank 0A 00 by their beginning, and what a search finds that ends the name behind it",
-        &["typed", "lower end", "upper end", "finds", "as by reading all", "with the name's end"],
-        &rows,
-    );
-    let blank = tables.colours.stored(&colour(b"\x0A\x00", None))?;
-    let below = !store.scan(&(blank.clone()..tables.colours.starting_with(&first, b"")?.start))?.is_empty();
-    println!("\n  the line without a name, {}, is below all of them: {}", hex(&blank[4..]), checks.yes(below));
-    Ok(())
-}
-
-/// How many of these are not among those.
-fn missing(these: &[Value], those: &[Value]) -> String {
-    let those: BTreeSet<&Value> = those.iter().collect();
-    these.iter().filter(|value| !those.contains(value)).count().to_string()
-}
-
-/// Beginnings in the other tables, and how many keys each of the wrong searches loses or takes in.
-fn beginnings(store: &Store, tables: &Tables, batches: &BTreeMap<FactId, Value>, checks: &mut Checks) -> Answer<()> {
-    let cyan = cyan_batch(batches)?;
-    let (dosed, blank) = ([Value::from(cyan)], [Value::Null]);
-    let mut rows = Vec::new();
-    for (what, table, first, start) in [
-        ("every recipe", &tables.lines, &[][..], &b""[..]),
-        ("recipes with a", &tables.lines, &[], b"a"),
-        ("recipes with a and a zero", &tables.lines, &[], b"a\0"),
-        ("recipes with half an é", &tables.lines, &[], b"\xC3"),
-        ("recipes with a zero and two thirds of a €", &tables.lines, &[], b"\0\xE2\x82"),
-        ("recipes with cyan, dosed into its batch", &tables.doses, &dosed, b"cyan"),
-        ("every lot, and no line without one", &tables.lots, &[], b""),
-        ("lots with S-17", &tables.lots, &[], b"S-17"),
-        ("lines without a lot, their recipes with a zero", &tables.lots, &blank, b"\0"),
-        ("tanks", &tables.tanks, &[], b"\x0A"),
-        ("tanks", &tables.tanks, &[], b"\x0A\x00"),
-        ("tanks", &tables.tanks, &[], b"\x0A\xFF"),
-        ("batches of tanks", &tables.batches, &[], b"\x0A\x00"),
-    ] {
-        let (found, same, [ended, above, unescaped]) = begun(store, table, first, start)?;
-        let right = checks.yes(same).to_owned();
-        let mut row = vec![what.to_owned(), table.name.to_owned(), first.len().to_string(), hex(start), found.len().to_string(), right];
-        row.extend([missing(&found, &ended), missing(&found, &above), missing(&found, &unescaped), missing(&unescaped, &found)]);
-        rows.push(row);
-    }
-    table(
-        "13. Beginnings in other tables, and what is lost by the field's end behind, by FF behind and by a zero that is not escaped",
-        &["what", "table", "k", "begins with", "keys", "as by reading all", "lost: end", "lost: FF", "lost: zero", "more: zero"],
-        &rows,
-    );
-    Ok(())
-}
-
 fn run(folder: &Path) -> Answer<Checks> {
     let (tables, mut random, mut checks) = (Tables::new(), Random(7), Checks::default());
     let store = Store::create(folder)?;
@@ -718,8 +612,6 @@ fn run(folder: &Path) -> Answer<Checks> {
     planned(&store, &tables, &mut checks)?;
     by_zeros(&store, &tables, &mut checks)?;
     spans(&store, &tables, &batches, &mut checks)?;
-    names(&store, &tables, &mut checks)?;
-    beginnings(&store, &tables, &batches, &mut checks)?;
     Ok(checks)
 }
 

@@ -1,7 +1,7 @@
-//! The register's six tables: the type of each one's keys, and where they stand in the store.
+//! The register's five tables: the type of each one's keys, and where they stand in the store.
 
 use std::ops::Range;
-use tuple::{FactId, PredicateId, Refusal, Type, Value, above_field, bounds, decode_key, encode_key, span, starting_with, strinc};
+use tuple::{FactId, PredicateId, Refusal, Type, Value, bounds, decode_key, encode_key, span, strinc};
 
 /// A table: its predicate's number and the type of its keys. A stored key is the number in four bytes, high byte first, and the key behind it.
 pub struct Table {
@@ -21,8 +21,6 @@ pub struct Tables {
     pub doses: Table,
     /// the supplier's lot, if there is one, recipe, line
     pub lots: Table,
-    /// tank's tag, a name of its colour, if there is one
-    pub colours: Table,
 }
 
 impl Tables {
@@ -35,11 +33,9 @@ impl Tables {
             lines: table("recipe lines", 3, &[Type::Str, Type::Int, Type::record([Type::Bytes, Type::Int])]),
             doses: table("doses", 4, &[Type::Fact(PredicateId(2)), Type::Str, Type::union([(1, Type::Int), (2, Type::Str)])]),
             lots: table("lots", 5, &[Type::optional(Type::Str), Type::Str, Type::Int]),
-            colours: table("colours", 6, &[Type::Bytes, Type::optional(Type::Str)]),
         }
     }
 
-    /// Those that take values of any sort; the colours are loaded last, for one search.
     pub fn all(&self) -> [&Table; 5] {
         [&self.tanks, &self.batches, &self.lines, &self.doses, &self.lots]
     }
@@ -95,22 +91,6 @@ impl Table {
         Ok(start..end)
     }
 
-    /// Where the keys stand that have these first fields and the next begins with these bytes: the starting_with call.
-    pub fn starting_with(&self, first: &[Value], start: &[u8]) -> Result<Range<Vec<u8>>, Refusal> {
-        let ends = starting_with(&self.ty, first, start)?;
-        Ok(self.behind(ends.start)..self.behind(ends.end))
-    }
-
-    /// Three wrong searches for the same: with the field's end behind the start, with FF behind the lower end as the upper, and with the start's zeros not
-    /// escaped.
-    pub fn starting_wrong(&self, first: &[Value], start: &[u8]) -> Result<[Range<Vec<u8>>; 3], Refusal> {
-        let (lower, none) = (self.starting_with(first, start)?.start, self.starting_with(first, b"")?.start);
-        let (ended, unescaped) = ([&lower[..], &[0]].concat(), [&none[..], start].concat());
-        let [after_ended, after_unescaped] = [strinc(&ended)?, strinc(&unescaped)?];
-        let above = above_field(&lower);
-        Ok([ended..after_ended, lower..above, unescaped..after_unescaped])
-    }
-
     /// Where all keys of the table stand.
     pub fn whole(&self) -> Range<Vec<u8>> {
         self.behind(vec![])..self.behind(vec![0xFF])
@@ -132,11 +112,6 @@ pub fn dose(batch: FactId, recipe: &str, what: Value) -> Value {
 /// A recipe line under its supplier's lot; blank where there is none.
 pub fn lot(lot: Option<&str>, recipe: &str, line: i64) -> Value {
     Value::record([lot.map_or(Value::Null, Value::from), Value::from(recipe), Value::Int(line)])
-}
-
-/// A name of a tank's colour; blank where there is none.
-pub fn colour(tag: &[u8], name: Option<&str>) -> Value {
-    Value::record([Value::from(tag), name.map_or(Value::Null, Value::from)])
 }
 
 /// The fields of a record.
@@ -163,8 +138,7 @@ pub fn shown(value: &Value) -> String {
         Value::Str(text) if text.is_empty() => "\"\"".to_owned(),
         Value::Int(number) => number.to_string(),
         Value::Str(text) if text.len() > 40 => format!("a text of {} bytes", text.len()),
-        // a zero byte has a sign of its own
-        Value::Str(text) => text.replace('\0', "␀"),
+        Value::Str(text) => text.clone(),
         Value::Bytes(bytes) => hex(bytes),
         Value::FactRef(id) => format!("reference {}:{}", id.predicate().0, id.sequence()),
         Value::Record(fields) => format!("({})", fields.iter().map(shown).collect::<Vec<_>>().join(", ")),

@@ -1,13 +1,13 @@
--- The place stays within the 39 counts, and what is left of them falls.
+-- The place stays within the 38 counts, and what is left of them falls.
 use Rattle.std.proofs.Common.{◌-◌, ◌≤◌, rules}
 use Rattle.replay.proofs.totals.Statement.{statement}
 use Rattle.replay.proofs.totals.Tie as tie
 
 abbrev invariant-loop : tie.invariant-loop
-invariant-loop counts list i₀ t5 t6 i = i ≤ 39
+invariant-loop counts list i₀ t5 t6 i = i ≤ 38
 
 abbrev decreases-loop : tie.decreases-loop
-decreases-loop counts list i₀ t5 t6 i = 39 - i
+decreases-loop counts list i₀ t5 t6 i = 38 - i
 
 names-requires : tie.Need-names-requires invariant-loop decreases-loop
 names-requires c κs = search rules

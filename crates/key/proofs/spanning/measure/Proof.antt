@@ -1,6 +1,5 @@
 -- The first k types and values stand in a row, and the next type stands behind them; what the walks say of each is the definition's, in its order.
 use native.Mathlib.Omega.{arith}
-use Rattle.key.proofs.FirstsLaws as firsts
 use Rattle.key.proofs.SpanningLaws as laws
 use borrow.Author.Rules.{rules}
 use Rattle.key.proofs.spanning.measure.Statement.{statement}
@@ -9,17 +8,17 @@ use Rattle.key.proofs.spanning.measure.Tie as tie
 shared-slice-read-k : tie.Need-shared-slice-read-k
 shared-slice-read-k c =
     let s = c.before.before.before.before.before.before.before.before in
-    firsts.k_there s.requires.firsts
+    laws.m_count s.requires
 
 cast-k : tie.Need-overflow-cast-k
 cast-k c =
     let ty = c.before.before.before.before.before.before.before in
-    record { fits = firsts.k_small ty.before.requires.firsts (omega (arith, ty.shared-slice-known.given 1)) }
+    record { fits = laws.m_small ty.before.requires (omega (arith, ty.shared-slice-known.given 1)) }
 
 fit-fields-requires : tie.Need-fit-fields-requires
 fit-fields-requires c κs =
     let s = c.before.before.before.before.before.before.before.before in
-    firsts.k_row s.requires.firsts
+    laws.m_row s.requires
 
 enum-known-no : tie.Need-enum-known-no
 enum-known-no c = search rules

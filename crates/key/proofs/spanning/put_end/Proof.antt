@@ -17,7 +17,7 @@ same_length : tie.Need-same-length
 same_length c = search rules
 
 returns : tie.Need-returns
-returns c = let v = c.before.before in laws.end_put v.before.before.before.before.put-fields.ensures v.put-value.ensures
+returns c = search laws.end_put
 
 pub put-end-spec : {M : Type 1} → statement M
 put-end-spec =

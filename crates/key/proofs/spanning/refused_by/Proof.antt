@@ -1,5 +1,4 @@
 -- The checks stand in the definition's order; each is a law of `SpanningLaws` about the sheets that passed those before it.
-use Rattle.key.proofs.FirstsLaws.{first_words}
 use Rattle.key.proofs.SpanningLaws as laws
 use borrow.Author.Rules.{rules}
 use Rattle.key.proofs.spanning.refused_by.Statement.{statement}
@@ -34,7 +33,7 @@ has-next-requires c κs =
     let r = c.before.before.before.before.before in
     let t = r.before.before in
     let a = t.before.before.before.before.before.before.before.before.args in
-    first_words a.ty.now a.words.now a.pool.now t.admit-type.ensures r.before.if1.false r.admit-record.ensures c.before.before.before.before.if2.false
+    laws.c_words a.ty.now a.words.now a.pool.now a.«low-words».now a.«low-pool».now a.«high-words».now a.«high-pool».now t.admit-type.ensures r.before.if1.false r.admit-record.ensures c.before.before.before.before.if2.false
 
 returns-5 : tie.Need-returns-5
 returns-5 c = search laws.c_next

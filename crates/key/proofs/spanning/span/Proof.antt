@@ -1,7 +1,6 @@
 -- What refuses the sheets or their values is answered first, then the rooms, the lower end's before the upper's; only then both ends are written, and FF behind the highest.
 use mathlib.Core.Path.{refl}
 use native.Mathlib.Omega.{arith}
-use Rattle.key.proofs.FirstsLaws.{k_there}
 use Rattle.key.proofs.SpanningLaws as laws
 use borrow.Author.Rules.{rules}
 use Rattle.key.proofs.spanning.span.Statement.{statement}
@@ -41,12 +40,12 @@ returns-3 c =
 put-end-requires : tie.Need-put-end-requires
 put-end-requires c κs =
     let i = c.before.before.before.before.before.before.before in
-    k_there (i.before.refused-by.ensures.passed i.if1.false).firsts
+    laws.m_count (i.before.refused-by.ensures.passed i.if1.false)
 
 put-end-requires-2 : tie.Need-put-end-requires-2
 put-end-requires-2 c κs =
     let i = c.before.before.before.before.before.before.before.before.before.before.before in
-    k_there (i.before.refused-by.ensures.passed i.if1.false).firsts
+    laws.m_count (i.before.refused-by.ensures.passed i.if1.false)
 
 sub-upper : tie.Need-overflow-sub-upper
 sub-upper c =

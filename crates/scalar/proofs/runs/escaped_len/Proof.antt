@@ -1,18 +1,20 @@
--- The run's beginning, and the end.
+-- The payload, one byte more for each zero, and the end.
 use Rattle.std.proofs.Common.{arith, rules}
 use Rattle.format.proofs.ZeroLaws.{zeros_le, escaped_long}
-use Rattle.format.proofs.StartLaws.{start_long}
 use Rattle.scalar.proofs.runs.escaped_len.Statement.{statement}
 use Rattle.scalar.proofs.runs.escaped_len.Tie as tie
 
-start-len-requires : tie.Need-start-len-requires
-start-len-requires c κs = search rules
+count-zeros-requires : tie.Need-count-zeros-requires
+count-zeros-requires c κs = search rules
 
 add-result : tie.Need-overflow-add-result
-add-result c = let s = c.before.before.args.payload.now in omega (arith, start_long s, zeros_le s)
+add-result c = omega (arith, zeros_le c.before.before.args.payload.now)
+
+add-result-2 : tie.Need-overflow-add-result-2
+add-result-2 c = omega (arith, zeros_le c.before.before.args.payload.now)
 
 returns : tie.Need-returns
-returns c = let s = c.before.before.args.payload.now in omega (arith, start_long s, escaped_long s)
+returns c = omega (arith, escaped_long c.before.before.args.payload.now)
 
 pub escaped-len-spec : {M : Type 1} → statement M
-escaped-len-spec = tie.close (tie.spec start-len-requires add-result returns)
+escaped-len-spec = tie.close (tie.spec count-zeros-requires add-result add-result-2 returns)

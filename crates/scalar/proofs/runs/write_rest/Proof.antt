@@ -1,13 +1,13 @@
--- The loop's invariant: what is left of the payload, run_start and put from o on, makes the whole. What falls is the payload left.
+-- The loop's invariant: the run of what is left of the payload, put from o on, makes the whole. What falls is the payload left.
 use Rattle.std.proofs.Common.{◌-◌, ◌≤◌, length, drop, arith, length-set}
-use Rattle.format.specs.Scalar.{run_start}
+use Rattle.format.specs.Scalar.{escaped}
 use Rattle.blocks.proofs.Put.{Left, left_all}
 use Rattle.scalar.proofs.Writing as laws
 use Rattle.scalar.proofs.runs.write_rest.Statement.{statement}
 use Rattle.scalar.proofs.runs.write_rest.Tie as tie
 
 abbrev invariant-loop : tie.invariant-loop
-invariant-loop buf₀ at payload from o₀ i₀ buf o i = (i ≤ length payload) × Left buf₀ at (run_start (drop from payload)) buf o (run_start (drop i payload))
+invariant-loop buf₀ at payload from o₀ i₀ buf o i = (i ≤ length payload) × Left buf₀ at (escaped (drop from payload)) buf o (escaped (drop i payload))
 
 abbrev decreases-loop : tie.decreases-loop
 decreases-loop buf₀ at payload from o₀ i₀ buf o i = length payload - i
@@ -48,6 +48,12 @@ loop-less c = omega arith
 loop-again : tie.Need-loop-preserved invariant-loop decreases-loop
 loop-again c = (omega arith, search laws.run_on)
 
+slice-write-buf-3 : tie.Need-slice-write-buf-3 invariant-loop decreases-loop
+slice-write-buf-3 c = search laws.end_room
+
+add-result : tie.Need-overflow-add-result invariant-loop decreases-loop
+add-result c = omega (arith, slice-write-buf-3 c)
+
 same_length : tie.Need-same-length invariant-loop decreases-loop
 same_length c = search laws.run_long
 
@@ -72,5 +78,7 @@ write-rest-spec =
     add-i
     loop-less
     loop-again
+    slice-write-buf-3
+    add-result
     same_length
     returns)

@@ -1,14 +1,14 @@
 -- Of a record type the two counts are compared.
-use Rattle.key.proofs.FirstsLaws as laws
+use Rattle.key.proofs.SpanningLaws as laws
 use borrow.Author.Rules.{rules}
-use Rattle.key.proofs.firsts.has_next.Statement.{statement}
-use Rattle.key.proofs.firsts.has_next.Tie as tie
+use Rattle.key.proofs.spanning.has_next.Statement.{statement}
+use Rattle.key.proofs.spanning.has_next.Tie as tie
 
 shared-slice-read-if1 : tie.Need-shared-slice-read-if1
 shared-slice-read-if1 c = search rules
 
 returns : tie.Need-returns
-returns c = let a = c.before.before.before.before.args in laws.no_next a.ty.now a.words.now c.if1.true
+returns c = search laws.no_next
 
 shared-slice-read-result : tie.Need-shared-slice-read-result
 shared-slice-read-result c = search rules
@@ -23,7 +23,7 @@ wide-word-requires : tie.Need-wide-word-requires
 wide-word-requires c κs = search rules
 
 returns-2 : tie.Need-returns-2
-returns-2 c = let i = c.before.before.before in let a = i.before.before.before.before.args in laws.next_is a.ty.now a.words.now c.wide_word.result i.if1.false c.wide_word.ensures
+returns-2 c = search laws.next_is
 
 pub has-next-spec : {M : Type 1} → statement M
 has-next-spec =
