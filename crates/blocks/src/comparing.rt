@@ -4,7 +4,7 @@ ghost use Rattle.format.specs.Order.{cmp_bytes};
 ghost use Rattle.blocks.specs.Compare.{Same, DifferAt, order_of};
 
 // How two byte strings compare.
-#[derive(Drop)]
+#[derive(Clone, Copy)]
 pub enum Order {
     Less,
     Equal,

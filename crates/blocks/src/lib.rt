@@ -1,4 +1,6 @@
 // The leaves that touch long runs of bytes, in blocks: a block is a literal number of bytes with no exit inside, so that it becomes vector code.
+#![tactic(auto)]
+
 mod comparing;
 mod copying;
 mod low;

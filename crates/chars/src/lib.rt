@@ -1,11 +1,13 @@
 // The string reader: a struct that holds the bytes behind the mark, a place and a finished flag, over covered functions on slice, place and flag. A new one gives the name
 // that get_str decodes, or refuses: theorem scrolls, from the contracts of str_chars, next, get_str and payload.
+#![tactic(auto)]
+
 ghost use Rattle.std.specs.Prelude.{◌≡◌, false, ◌<◌, ◌+◌, length, get_or, drop};
 ghost use Rattle.format.specs.Chars as chars;
 ghost use Rattle.chars.specs.Reader.{step_of, stepped_of, refused_as, Opens, Begins, Moves};
 
 // A reader of one stored string. Any place and any flag will do.
-#[derive(Drop)]
+#[derive(Clone, Copy)]
 pub struct StrChars<'a> {
     bytes: &'a [u8],
     at: usize,
@@ -13,7 +15,7 @@ pub struct StrChars<'a> {
 }
 
 // What a step gives: a character's code point, the end, or a refusal and its detail.
-#[derive(Drop)]
+#[derive(Clone, Copy)]
 pub enum Step {
     Char(u32),
     End,
@@ -21,7 +23,7 @@ pub enum Step {
 }
 
 // A step, and the reader's place and flag after it.
-#[derive(Drop)]
+#[derive(Clone, Copy)]
 pub struct Stepped {
     pub step: Step,
     pub at: usize,
@@ -118,7 +120,7 @@ pub fn step_at(s: &[u8], at: usize, done: bool) -> Stepped
 }
 
 // Whether bytes begin as a string does: refusal 0 if so. A refused reader is finished.
-#[derive(Drop)]
+#[derive(Clone, Copy)]
 pub struct Opening {
     pub refusal: u32,
     pub detail: u64,
@@ -174,7 +176,7 @@ pub fn next<'s, 'a>(r: &'s mut StrChars<'a>) -> Step
 }
 
 // A new reader. Refusal 0 is none; a refused reader is finished.
-#[derive(Drop)]
+#[derive(Clone, Copy)]
 pub struct Opened<'a> {
     pub refusal: u32,
     pub detail: u64,

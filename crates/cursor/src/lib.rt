@@ -1,4 +1,6 @@
 // The reading and the writing cursor: a place and a depth, by value, beside the bytes. A refused step hands back no cursor: the caller's own stands.
+#![tactic(auto)]
+
 mod reading;
 mod writing;
 
@@ -15,7 +17,7 @@ pub use writing::{
 };
 
 // A place in the bytes and how many groups are open. Any place and any depth will do: past the end nothing is left, and a depth over 256 is 256.
-#[derive(Drop)]
+#[derive(Clone, Copy)]
 pub struct Cursor {
     pub at: usize,
     pub depth: u32,
@@ -37,7 +39,7 @@ impl Cursor {
 }
 
 // The cursor behind a step that took or wrote no value of its own; or a refusal and its detail.
-#[derive(Drop)]
+#[derive(Clone, Copy)]
 pub enum Moved {
     To(Cursor),
     Refused(u32, u64),

@@ -10,14 +10,14 @@ use format::Length;
 use scalar::{GotInt, GotPart, groups};
 
 // A number and the cursor behind it; or a refusal and its detail.
-#[derive(Drop)]
+#[derive(Clone, Copy)]
 pub enum Taken {
     Value(u64, Cursor),
     Refused(u32, u64),
 }
 
 // Where a payload is, its length and the cursor behind its field; or a refusal and its detail.
-#[derive(Drop)]
+#[derive(Clone, Copy)]
 pub enum TakenPart {
     InKey(usize, usize, Cursor),
     InScratch(usize, Cursor),
@@ -25,7 +25,7 @@ pub enum TakenPart {
 }
 
 // Whether the open group ends here; or a refusal and its detail.
-#[derive(Drop)]
+#[derive(Clone, Copy)]
 pub enum RecordEnd {
     Is(bool),
     Refused(u32, u64),

@@ -1,4 +1,6 @@
 // Decoding whole keys into lent sheets: first measured by the type, then filled by the marks alone, so that a refused call writes nothing.
+#![tactic(auto)]
+
 ghost use Rattle.std.specs.Prelude.{◌≡◌, true};
 ghost use Rattle.format.specs.TypeSheet.{is_some, type_of};
 ghost use Rattle.format.specs.Calls.{decode_typed_call, decode_key_call, check_key_call};
@@ -9,7 +11,7 @@ ghost use Rattle.decode.specs.Answers.{Decodes, ChecksKey, Top, TopIs, TopWalk, 
 use read::Walked;
 
 // How many words and pool bytes were written, and the values begun; or the refusal, with the values begun.
-#[derive(Drop)]
+#[derive(Clone, Copy)]
 pub enum Decoded {
     Done {
         words: usize,
@@ -24,7 +26,7 @@ pub enum Decoded {
 }
 
 // A key that decodes, with the values begun; or the refusal.
-#[derive(Drop)]
+#[derive(Clone, Copy)]
 pub enum CheckedKey {
     Accepted { begun: usize },
     Refused { no: u32, detail: u64, begun: usize },

@@ -1,4 +1,6 @@
 // The encoding calls: a value under a type, as a whole or as a key.
+#![tactic(auto)]
+
 ghost use Rattle.std.specs.Prelude.{◌≡◌, eqb, get_or};
 ghost use Rattle.format.specs.Calls.{encode_typed_call, encode_key_call};
 ghost use Rattle.format.specs.Zeros.{encode_typed_zeros, encode_key_zeros};
@@ -7,7 +9,7 @@ ghost use Rattle.encode.specs.Encoded.{size_in, sized, key_of, Sheets, Accepted,
 use fit::Fitted;
 
 // How many bytes were written, and how many zeros were escaped in them; or a refusal and its detail.
-#[derive(Drop)]
+#[derive(Clone, Copy)]
 pub enum Encoded {
     Done { length: usize, zeros: usize },
     Refused(u32, u64),

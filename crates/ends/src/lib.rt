@@ -1,4 +1,6 @@
 // Ends of ranges of keys: strinc and above_field.
+#![tactic(auto)]
+
 ghost use Rattle.format.specs.Lengths.{Leaves};
 ghost use Rattle.format.specs.Calls.{strinc_call, above_field_call};
 ghost use Rattle.ends.specs.Ends.{Trims};

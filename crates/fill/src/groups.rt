@@ -41,7 +41,7 @@ fn fields_end(bytes: &[u8], j: usize, depth: usize) -> bool
 }
 
 // A record or a union that stands at a depth. A record's word is written last, when its fields are counted.
-#[cycle(fill_fields_fill_group)]
+#[cycle(groups)]
 fn fill_group(
     bytes: &[u8],
     i: usize,
@@ -86,7 +86,7 @@ fn fill_group(
 }
 
 // The fields that stand at a depth, up to their end, with their count. A union's payload is one field. A 00 that is no end is a blank.
-#[cycle(fill_fields_fill_group)]
+#[cycle(groups)]
 fn fill_fields(
     bytes: &[u8],
     i: usize,

@@ -1,4 +1,6 @@
 // The encoder's measuring walk: over a type and a value, without a buffer. It finds every refusal, or where type and value end and how long the encoding is.
+#![tactic(auto)]
+
 ghost use Rattle.std.specs.Prelude.{◌≡◌, ◌+◌, ◌≤◌, ◌<◌, ◌^◌, length, get_or};
 ghost use Rattle.format.specs.ValueSheet.{max_value_words};
 ghost use Rattle.format.specs.Encode.{fits_ref, null_bytes};
@@ -8,7 +10,7 @@ ghost use Rattle.fit.specs.Fit.{plain_place, leaf_in, ref_in, longer, len_of, St
 use scalar::Judged;
 
 // It fits: the places behind it in type, words and pool, and the length of its encoding. Or a refusal and its detail.
-#[derive(Drop)]
+#[derive(Clone, Copy)]
 pub enum Fitted {
     Fits {
         at: usize,
@@ -159,7 +161,7 @@ fn fit_other(
 }
 
 // The value at a place of the words under the type at a place of its sheet, its bytes from a place of the pool on. The end of the type is said where it is asked for.
-#[cycle(fit_fields_fit_value)]
+#[cycle(fits)]
 pub fn fit_value(
     ty: &[u32],
     words: &[u64],
@@ -208,7 +210,7 @@ pub fn fit_value(
 }
 
 // The n fields of a record, from these places on.
-#[cycle(fit_fields_fit_value)]
+#[cycle(fits)]
 pub fn fit_fields(
     ty: &[u32],
     words: &[u64],

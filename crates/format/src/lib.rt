@@ -1,8 +1,10 @@
 // The tuple format: its definitions stand in specs/, the laws about them in proofs/. The code here names the format's constants and what every crate above shares.
+#![tactic(auto)]
+
 ghost use Rattle.std.specs.Prelude.{◌≡◌};
 
 // How far a call came: bytes written, an end, a place or a used length; or a refusal and its detail.
-#[derive(Drop)]
+#[derive(Clone, Copy)]
 pub enum Length {
     Done(usize),
     Refused(u32, u64),

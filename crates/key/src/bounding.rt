@@ -7,7 +7,7 @@ ghost use Rattle.key.specs.Keys.{BoundsLeft};
 use format::Length;
 
 // The lengths of the lower and the upper end, or a refusal and its detail.
-#[derive(Drop)]
+#[derive(Clone, Copy)]
 pub enum Bounded {
     Done(usize, usize),
     Refused(u32, u64),

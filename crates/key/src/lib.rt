@@ -1,4 +1,6 @@
 // Keys of record types: the bounds call and replacement, over passing a key's fields; and the span call, which makes its ends of values. What they rest on stands in proofs/.
+#![tactic(auto)]
+
 mod bounding;
 mod passing;
 mod replacing;

@@ -7,21 +7,21 @@ use format::Length;
 use read::Walked;
 
 // The next places in the type and in the key, or the refusal.
-#[derive(Drop)]
+#[derive(Clone, Copy)]
 pub enum Passed {
     To(usize, usize),
     Refused(u32, u64),
 }
 
 // Does a key end here, or what refuses it?
-#[derive(Drop)]
+#[derive(Clone, Copy)]
 pub enum Rest {
     Whole,
     Refused(u32, u64),
 }
 
 // The place of a field's type, and where the field starts and ends in the key; or what refuses the key.
-#[derive(Drop)]
+#[derive(Clone, Copy)]
 pub enum Field {
     At(usize, usize, usize),
     Refused(u32, u64),
@@ -29,8 +29,8 @@ pub enum Field {
 
 // One value at depth 0.
 pub fn pass_value(ty: &[u32], at: usize, bytes: &[u8], i: usize) -> Passed
-    requires fact_1 { TypeAt ty.now at }
-    requires fact_2 { i ≤ length bytes.now }
+    requires typed { TypeAt ty.now at }
+    requires inside { i ≤ length bytes.now }
     ensures { PassesValue ty.now at bytes.now i result }
 {
     match read::walk_value(ty, at, bytes, i, 0, true) {
@@ -51,8 +51,8 @@ pub fn pass_value(ty: &[u32], at: usize, bytes: &[u8], i: usize) -> Passed
 
 // The n bare fields whose types stand at a place of the sheet, from a place of the key on.
 pub fn pass_fields(ty: &[u32], at: usize, n: u32, bytes: &[u8], i: usize) -> Passed
-    requires fact_1 { FieldsAt ty.now at n }
-    requires fact_2 { i ≤ length bytes.now }
+    requires typed { FieldsAt ty.now at n }
+    requires inside { i ≤ length bytes.now }
     ensures { PassesFields ty.now at n bytes.now i result }
 {
     match read::walk_fields(ty, at, n, bytes, i, 0, true) {
@@ -73,8 +73,8 @@ pub fn pass_fields(ty: &[u32], at: usize, n: u32, bytes: &[u8], i: usize) -> Pas
 
 // The last n fields of a key, with nothing left over. The end of their types is not asked for.
 pub fn pass_rest(ty: &[u32], at: usize, n: u32, bytes: &[u8], i: usize) -> Rest
-    requires fact_1 { FieldsAt ty.now at n }
-    requires fact_2 { i ≤ length bytes.now }
+    requires typed { FieldsAt ty.now at n }
+    requires inside { i ≤ length bytes.now }
     ensures { Ends ty.now at n bytes.now i result }
 {
     match read::walk_fields(ty, at, n, bytes, i, 0, false) {
@@ -100,8 +100,8 @@ pub fn pass_rest(ty: &[u32], at: usize, n: u32, bytes: &[u8], i: usize) -> Rest
 
 // Where the first k of a key's n fields end, or what refuses the key.
 pub fn split_key(ty: &[u32], n: u32, key: &[u8], k: u32) -> Length
-    requires fact_1 { FieldsAt ty.now 2 n }
-    requires fact_2 { k ≤ n }
+    requires typed { FieldsAt ty.now 2 n }
+    requires inside { k ≤ n }
     ensures { Splits ty.now n key.now k result }
 {
     match pass_fields(ty, 2, k, key, 0) {
@@ -115,8 +115,8 @@ pub fn split_key(ty: &[u32], n: u32, key: &[u8], k: u32) -> Length
 
 // A field of a key of n fields, where the whole key is good.
 pub fn find_field(ty: &[u32], n: u32, key: &[u8], k: u32) -> Field
-    requires fact_1 { FieldsAt ty.now 2 n }
-    requires fact_2 { k < n }
+    requires typed { FieldsAt ty.now 2 n }
+    requires inside { k < n }
     ensures { Finds ty.now n key.now k result }
 {
     match pass_fields(ty, 2, k, key, 0) {

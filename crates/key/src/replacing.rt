@@ -37,8 +37,8 @@ fn put_field(
     words: &[u64],
     pool: &[u8],
 ) -> Length
-    requires fact_1 { TypeAt ty.now at }
-    requires fact_2 { (start ≤ end) × (end ≤ used) × (used ≤ length buffer.old) }
+    requires typed { TypeAt ty.now at }
+    requires inside { (start ≤ end) × (end ≤ used) × (used ≤ length buffer.old) }
     ensures { ValueStands ty.now at buffer.old used start end words.now pool.now result buffer.new }
 {
     if !sheet::admit_value(words, pool) {

@@ -11,7 +11,7 @@ use crate::types::{Words, type_words};
 pub const MAX_INPUT: usize = 65536;
 
 // Why there is no type: the first of these that holds. A word's place is counted from 1.
-#[derive(Drop)]
+#[derive(Clone, Copy)]
 pub enum Reason {
     TooLong,
     NoLine,
@@ -21,14 +21,14 @@ pub enum Reason {
 }
 
 // How many words of an admitted type stand at the front of the buffer.
-#[derive(Drop)]
+#[derive(Clone, Copy)]
 enum Typed {
     Words(usize),
     None(Reason),
 }
 
 // The same, and the key lines, which are counted from 1.
-#[derive(Drop)]
+#[derive(Clone, Copy)]
 pub enum First {
     Type { words: usize, left: Left },
     None(Reason),

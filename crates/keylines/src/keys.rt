@@ -4,7 +4,7 @@ ghost use Rattle.format.specs.Keylist.{hex_digit};
 ghost use Rattle.keylines.specs.Answers.{digit_is, KeyRead};
 
 // How many bytes stand at the front of the buffer.
-#[derive(Drop)]
+#[derive(Clone, Copy)]
 pub enum Key {
     Has(usize),
     Bad,

@@ -1,4 +1,6 @@
 // What keylist writes for its input: the type that its first line names, or why there is none; the rows of its key lines, in pieces.
+#![tactic(auto)]
+
 mod first;
 mod keys;
 mod pieces;

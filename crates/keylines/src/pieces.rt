@@ -18,7 +18,7 @@ pub const PIECE_ROOM: usize = 16384;
 const MAX_ROW: usize = 59;
 
 // The numbers of a key line's row behind its place.
-#[derive(Drop)]
+#[derive(Clone, Copy)]
 struct Told {
     no: u32,
     detail: u64,
@@ -26,7 +26,7 @@ struct Told {
 }
 
 // The same, and the place behind the line.
-#[derive(Drop)]
+#[derive(Clone, Copy)]
 struct Line {
     no: u32,
     detail: u64,
@@ -35,14 +35,14 @@ struct Line {
 }
 
 // The key lines that are left: where they begin, and the number of the first.
-#[derive(Drop)]
+#[derive(Clone, Copy)]
 pub struct Left {
     pub at: usize,
     pub line: u64,
 }
 
 // How many bytes were put at the front of the buffer, and the key lines that are left.
-#[derive(Drop)]
+#[derive(Clone, Copy)]
 pub struct Piece {
     pub len: usize,
     pub left: Left,
@@ -50,8 +50,8 @@ pub struct Piece {
 
 // What the row of a line with this text tells.
 fn tell_key(text: &[u8], ty: &[u32], key: &mut [u8]) -> Told
-    requires fact_1 { is_some (type_of ty.now) ≡ true }
-    requires fact_2 { length text.now ≤ 2 * length key.old }
+    requires typed { is_some (type_of ty.now) ≡ true }
+    requires fits { length text.now ≤ 2 * length key.old }
     ensures { KeyTold ty.now text.now result }
 {
     let Key::Has(n) = pairs(text, key) else {

@@ -5,14 +5,14 @@ ghost use Rattle.keylines.specs.Answers.{word_is, WordsRead};
 
 use crate::text::find;
 
-#[derive(Drop)]
+#[derive(Clone, Copy)]
 pub enum Word {
     Is(u32),
     Bad,
 }
 
 // How many words stand at the front of the buffer; more words than it holds; the place, from 1, of the first that is none.
-#[derive(Drop)]
+#[derive(Clone, Copy)]
 pub enum Words {
     Are(usize),
     Many,

@@ -1,5 +1,7 @@
 // Checks keys: reads a type and keys as text, and writes for each key whether it decodes. What is put for an input is the library's, piece by piece; that the
 // pieces are together what is due follows from its contracts (keylines/proofs/CallLaws).
+#![tactic(auto)]
+
 ghost use Rattle.std.specs.Prelude.{◌≡◌, length};
 ghost use Rattle.keylines.specs.Answers.{Counts, PieceAsked};
 
@@ -7,7 +9,7 @@ use keylines::{First, KEY_ROOM, Left, PIECE_ROOM, Reason};
 use libc::{STDERR_FILENO, STDIN_FILENO, STDOUT_FILENO};
 
 // How much of the input was read, and whether a read failed.
-#[derive(Drop)]
+#[derive(Clone, Copy)]
 struct Input {
     count: usize,
     failed: bool,

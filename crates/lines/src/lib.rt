@@ -1,4 +1,6 @@
 // Lines of text: their fields, and the numbers and lists that these hold. Every call is total: a field that a line lacks is empty.
+#![tactic(auto)]
+
 mod elements;
 mod fields;
 mod lists;

@@ -9,7 +9,7 @@ pub const DONE: usize = 0xffff_ffff_ffff_ffff;
 
 // The element read last and the place of the next. In a repetition also the place of its first element and how many times it was read; else 0.
 // Where no list goes on, a walk stays as it is, and never comes to DONE.
-#[derive(Drop)]
+#[derive(Clone, Copy)]
 pub struct Walk {
     pub value: u64,
     pub at: usize,

@@ -2,7 +2,7 @@
 use crate::fields::field;
 
 // An element of a text, and the place behind it: its own place where none stands there.
-#[derive(Drop)]
+#[derive(Clone, Copy)]
 pub struct Element {
     pub value: u64,
     pub next: usize,

@@ -1,5 +1,7 @@
 // Scrolls stored names as a panel does, a step a character, and prints a name on a line: its bytes, the refusal of an opening, the characters' code points, the end or
 // a refusal behind them, and one step more; then what get_str answers to the same bytes.
+#![tactic(auto)]
+
 ghost use Rattle.std.specs.Prelude.{◌≡◌, ◌<◌};
 ghost use Rattle.names.specs.Steps.{start, with, Gives, Shows};
 
@@ -10,13 +12,13 @@ use scalar::GotPart;
 const STEPS: usize = 12;
 
 // A step, as an element of an array.
-#[derive(Drop)]
+#[derive(Clone, Copy)]
 struct Seen {
     step: Step,
 }
 
 // A reader's opening and its first steps. Refusal 0 is none.
-#[derive(Drop)]
+#[derive(Clone, Copy)]
 struct Given {
     refusal: u32,
     detail: u64,
@@ -61,7 +63,7 @@ fn read(name: &[u8]) -> Given
 }
 
 // What the panel shows of a name, beside get_str's answer.
-#[derive(Drop)]
+#[derive(Clone, Copy)]
 struct Panel {
     given: Given,
     got: GotPart,

@@ -1,4 +1,6 @@
 // The order of two values, over their sheets.
+#![tactic(auto)]
+
 ghost use Rattle.std.specs.Prelude.{◌≡◌, ◌+◌, ◌≤◌, length};
 ghost use Prim.Native.Nat.{compare};
 ghost use Rattle.format.specs.Order.{cmp_bytes, offset};
@@ -23,7 +25,7 @@ const RANK_BYTES: u64 = 0x53;
 const TOP_BIT: u64 = 0x8000_0000_0000_0000;
 
 // How two values compare, or a refusal with its detail.
-#[derive(Drop)]
+#[derive(Clone, Copy)]
 pub enum Compared {
     Less,
     Equal,
@@ -32,7 +34,7 @@ pub enum Compared {
 }
 
 // Where a walk stands in the words and the pool of both sheets, and how what it passed compares: 0 equal, 1 less, 2 greater. Only an equal walk goes on.
-#[derive(Drop)]
+#[derive(Clone, Copy)]
 pub struct Walk {
     pub order: u32,
     pub i: usize,
@@ -121,7 +123,7 @@ fn compare_scalar(pa: &[u8], pb: &[u8], s: Walk, rank: u64, x: u64, y: u64) -> W
 }
 
 // The values at the places.
-#[cycle(compare_fields_compare_value)]
+#[cycle(compares)]
 fn compare_value(wa: &[u64], pa: &[u8], wb: &[u64], pb: &[u8], s: Walk) -> Walk
     requires { Within wa.now pa.now wb.now pb.now s }
     ensures { CompareValue wa.now pa.now wb.now pb.now s result }
@@ -166,7 +168,7 @@ fn compare_value(wa: &[u64], pa: &[u8], wb: &[u64], pb: &[u8], s: Walk) -> Walk
 }
 
 // The fields of two records, x in the first and y in the second: the first that differ decide, else the shorter record comes first.
-#[cycle(compare_fields_compare_value)]
+#[cycle(compares)]
 fn compare_fields(wa: &[u64], pa: &[u8], wb: &[u64], pb: &[u8], s: Walk, x: u64, y: u64) -> Walk
     requires { Within wa.now pa.now wb.now pb.now s }
     ensures { CompareFields wa.now pa.now wb.now pb.now s x y result }

@@ -1,5 +1,7 @@
 // Question three of the apprentice exam: two batches and one tank; which batch may be dosed? Answered from the keys alone: a batch belongs to the tank
 // where its key lies between the tank's two ends. Then the same for tags that end in a zero.
+#![tactic(auto)]
+
 use blocks::Order;
 use encode::Encoded;
 use key::Bounded;

@@ -60,8 +60,8 @@ fn walk_ref(rest: &[u8], i: usize, predicate: u32, at: usize) -> Walked
 
 // A scalar under the type at a place of the sheet.
 pub fn walk_scalar(ty: &[u32], at: usize, rest: &[u8], i: usize) -> Walked
-    requires fact_1 { TypeAt ty.now at }
-    requires fact_2 { (get_or ty.now at 0 < 5) × (i + length rest.now < 2 ^ 64) }
+    requires typed { TypeAt ty.now at }
+    requires plain { (get_or ty.now at 0 < 5) × (i + length rest.now < 2 ^ 64) }
     ensures { ScalarWalk ty.now at rest.now i result }
 {
     let kind = ty[at];

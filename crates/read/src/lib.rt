@@ -1,4 +1,6 @@
 // Decoding without keeping: a walk over a type and a key, which finds every refusal, or how much room the value takes.
+#![tactic(auto)]
+
 mod answers;
 mod groups;
 mod keys;
@@ -10,7 +12,7 @@ pub use values::{walk_fields, walk_value};
 
 // How a walk ended: the next places in the type and the key, and of what was read the words, the bytes for the pool and the values begun; or the refusal, with
 // the values begun.
-#[derive(Drop)]
+#[derive(Clone, Copy)]
 pub enum Walked {
     Good {
         at: usize,

@@ -11,7 +11,7 @@ use scalar::GotInt;
 
 // A value under the type at a place of the sheet. Under an optional type a null is read; what is none is read as the type behind word 7. The one call of
 // `walk_plain` stands here, so that it is no frame of its own.
-#[cycle(walk_fields_walk_plain_walk_value)]
+#[cycle(walks)]
 pub fn walk_value(ty: &[u32], at: usize, bytes: &[u8], i: usize, depth: u32, asked: bool) -> Walked
     requires { (TypeAt ty.now at) × (i ≤ length bytes.now) }
     ensures { ValueWalk ty.now at bytes.now i depth asked result }
@@ -31,7 +31,7 @@ pub fn walk_value(ty: &[u32], at: usize, bytes: &[u8], i: usize, depth: u32, ask
 }
 
 // A value under a type that is not optional.
-#[cycle(walk_fields_walk_plain_walk_value)]
+#[cycle(walks)]
 fn walk_plain(ty: &[u32], at: usize, bytes: &[u8], i: usize, depth: u32, asked: bool) -> Walked
     requires { (TypeAt ty.now at) × ((i ≤ length bytes.now) × (get_or ty.now at 0 < 7)) }
     ensures { ValueWalk ty.now at bytes.now i depth asked result }
@@ -65,7 +65,7 @@ fn walk_plain(ty: &[u32], at: usize, bytes: &[u8], i: usize, depth: u32, asked: 
 }
 
 // The n fields whose types stand at a place of the sheet: bare at depth 0, else those of a group, with its end.
-#[cycle(walk_fields_walk_plain_walk_value)]
+#[cycle(walks)]
 pub fn walk_fields(
     ty: &[u32],
     at: usize,

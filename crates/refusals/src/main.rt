@@ -1,4 +1,6 @@
 // Runs each example of document 01's table that the whole-value calls can show, its specimens of nested records and of the longest key, blank fields, and spans.
+#![tactic(auto)]
+
 mod blanks; // blanks.rt: optional types, and a value's blanks
 mod lines; // lines.rt: a call's answer on a line
 mod spans; // spans.rt: spans on the next field

@@ -1,5 +1,7 @@
 // Replays the fixed list of the original's answers (tools/README.md has its format) over the proved calls, and prints how many lines of each call agreed
 // and every line that did not.
+#![tactic(auto)]
+
 mod answers;
 mod cursors;
 mod fields;

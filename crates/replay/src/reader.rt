@@ -27,7 +27,7 @@ pub fn next(line: &[u8], bytes: &[u8]) -> bool {
 }
 
 // How many characters were given, the refusal that ended them, and where.
-#[derive(Drop)]
+#[derive(Clone, Copy)]
 struct Characters {
     count: u64,
     refusal: u32,

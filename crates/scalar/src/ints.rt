@@ -89,7 +89,7 @@ pub fn write_i64(buf: &mut [u8], at: usize, w: u64) -> usize
 }
 
 // An integer and how many bytes it took; or a refusal and its detail.
-#[derive(Drop)]
+#[derive(Clone, Copy)]
 pub enum GotInt {
     Value(u64, usize),
     Refused(u32, u64),

@@ -1,4 +1,6 @@
 // Single fields as bytes: integers, escaped runs, references and union tags, written and read.
+#![tactic(auto)]
+
 pub mod groups;
 pub mod ints;
 pub mod payloads;

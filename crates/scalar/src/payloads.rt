@@ -8,7 +8,7 @@ use crate::runs;
 use crate::runs::MarkedRun;
 
 // Where a payload is, its length and how many bytes its field took; or a refusal and its detail.
-#[derive(Drop)]
+#[derive(Clone, Copy)]
 pub enum GotPart {
     InKey(usize, usize, usize),
     InScratch(usize, usize),

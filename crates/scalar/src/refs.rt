@@ -23,7 +23,7 @@ pub fn predicate_of(raw: u64) -> u64
 }
 
 // A reference fits its declared predicate; or a refusal and its detail.
-#[derive(Drop)]
+#[derive(Clone, Copy)]
 pub enum Judged {
     Fits,
     Refused(u32, u64),

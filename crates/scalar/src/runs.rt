@@ -39,7 +39,7 @@ fn write_rest(buf: &mut [u8], at: usize, payload: &[u8], from: usize) -> usize
 }
 
 // The place behind what was written, and how many zeros were escaped in it.
-#[derive(Drop)]
+#[derive(Clone, Copy)]
 pub struct Written {
     pub end: usize,
     pub zeros: usize,
@@ -57,7 +57,7 @@ pub fn write_escaped(buf: &mut [u8], at: usize, payload: &[u8]) -> Written
 }
 
 // Where a run's terminator is and how many bytes its payload has, if it ends.
-#[derive(Drop)]
+#[derive(Clone, Copy)]
 pub enum Measure {
     Run(usize, usize),
     Unended,
@@ -99,7 +99,7 @@ pub fn measure_run(bytes: &[u8]) -> Measure
 }
 
 // Where the terminator of a run behind a mark is and how many bytes its payload has; or a refusal and its detail.
-#[derive(Drop)]
+#[derive(Clone, Copy)]
 pub enum MarkedRun {
     Ends(usize, usize),
     Refused(u32, u64),

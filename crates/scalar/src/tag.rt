@@ -4,7 +4,7 @@ ghost use Rattle.scalar.specs.Answers.{TagIn};
 use crate::ints;
 
 // The tag is the first len of the bytes.
-#[derive(Drop)]
+#[derive(Clone, Copy)]
 pub struct UnionTag {
     pub bytes: [u8; 6],
     pub len: usize,

@@ -6,7 +6,7 @@ use crate::types::{alternatives_end, type_end};
 
 // What the search for a tag gives: the place of the alternative's type, 0 for none; how many alternatives stand behind it; how many were looked at, which is its
 // place from 1, or all of them.
-#[derive(Drop)]
+#[derive(Clone, Copy)]
 pub struct Choice {
     pub place: usize,
     pub left: u32,

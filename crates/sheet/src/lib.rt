@@ -1,4 +1,6 @@
 // Sheets: types and values as lists of words, admitted and walked.
+#![tactic(auto)]
+
 mod types; // types.rt: where a type ends, and whether a type sheet is admitted
 mod alternatives; // alternatives.rt: a union's alternatives
 mod values; // values.rt: where a value ends, and whether a value sheet is admitted

@@ -4,7 +4,7 @@ ghost use Rattle.format.specs.TypeSheet.{type_at, types, alts, type_of, is_some}
 ghost use Rattle.sheet.specs.Places.{Ends, SkipsType};
 
 // The place behind the type at `at`, of at most `groups` groups in one another; 0 if there is none. Only a group is a call.
-#[cycle(alternatives_end_fields_end_group_end_type_end)]
+#[cycle(type_ends)]
 pub fn type_end(ty: &[u32], at: usize, groups: usize) -> usize
     ensures { Ends ty.now (at + 1) (type_at groups (drop at ty.now)) result }
 {
@@ -31,7 +31,7 @@ pub fn type_end(ty: &[u32], at: usize, groups: usize) -> usize
 
 // The place behind the group at `at`, or behind word 7 and the type that it makes optional, which is not optional itself; an unknown kind is none. It
 // calls itself behind word 7, so that the compiler keeps it out of the loops over types.
-#[cycle(alternatives_end_fields_end_group_end_type_end)]
+#[cycle(type_ends)]
 fn group_end(ty: &[u32], at: usize, groups: usize) -> usize
     requires { (at + 1 < length ty.now) × (4 < get_or ty.now at 0) }
     ensures { Ends ty.now (at + 1) (type_at groups (drop at ty.now)) result }
@@ -70,7 +70,7 @@ fn group_end(ty: &[u32], at: usize, groups: usize) -> usize
 }
 
 // The place behind `count` types from `at` on; 0 if they do not stand there.
-#[cycle(alternatives_end_fields_end_group_end_type_end)]
+#[cycle(type_ends)]
 fn fields_end(ty: &[u32], at: usize, count: u32, groups: usize) -> usize
     requires { at ≤ length ty.now }
     ensures { Ends ty.now at (types (type_at groups) count (drop at ty.now)) result }
@@ -88,7 +88,7 @@ fn fields_end(ty: &[u32], at: usize, count: u32, groups: usize) -> usize
 }
 
 // The place behind `count` alternatives from `at` on; 0 if they do not stand there.
-#[cycle(alternatives_end_fields_end_group_end_type_end)]
+#[cycle(type_ends)]
 pub fn alternatives_end(ty: &[u32], at: usize, count: u32, groups: usize) -> usize
     requires { at ≤ length ty.now }
     ensures { Ends ty.now at (alts (type_at groups) count (drop at ty.now)) result }

@@ -5,7 +5,7 @@ ghost use Rattle.format.specs.ValueSheet.{value_at, values, value_of};
 ghost use Rattle.sheet.specs.Places.{ValueEnds, RunEnds};
 
 // A place in a value sheet: in the words and in the pool.
-#[derive(Drop)]
+#[derive(Clone, Copy)]
 pub struct Place {
     pub words: usize,
     pub pool: usize,
@@ -39,7 +39,7 @@ fn run_end(words: &[u64], pool: &[u8], at: usize, from: usize) -> Place
 
 // The place behind the value at `at`, its bytes from `from` on, with at most `groups` groups in one another; its words are 0 if there is none.
 // A union's payload is the value behind its tag.
-#[cycle(value_end_values_end)]
+#[cycle(value_ends)]
 pub fn value_end(words: &[u64], pool: &[u8], at: usize, from: usize, groups: usize) -> Place
     requires { from ≤ length pool.now }
     ensures { ValueEnds words.now pool.now (at + 1) from (value_at groups (drop at words.now) (drop from pool.now)) result.words result.pool }
@@ -84,7 +84,7 @@ pub fn value_end(words: &[u64], pool: &[u8], at: usize, from: usize, groups: usi
 
 // The place behind `count` values from `at` on, their bytes from `from` on, each with at most `groups` groups in one another; its words are 0 if they
 // do not stand there.
-#[cycle(value_end_values_end)]
+#[cycle(value_ends)]
 fn values_end(
     words: &[u64],
     pool: &[u8],

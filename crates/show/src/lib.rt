@@ -1,5 +1,7 @@
 // Lines that the test programs print: bytes in hexadecimal, numbers, refusals.
 
+#![tactic(auto)]
+
 fn digits(b: u8) {
     io::print_hex(1, b as u64, 2);
 }

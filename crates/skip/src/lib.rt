@@ -1,4 +1,6 @@
 // Skipping one field of a key without its type.
+#![tactic(auto)]
+
 ghost use Rattle.std.specs.Prelude.{◌≡◌, true, ◌&&◌, ltb, eqb, get_or};
 ghost use Rattle.format.specs.Lengths.{length_in};
 ghost use Rattle.format.specs.Encode.{max_depth};
@@ -11,7 +13,7 @@ use format::Length;
 use scalar::{GotInt, groups, ints, runs};
 
 // How many groups are open behind a field or an opening mark, and how many bytes it took; or a refusal and its detail.
-#[derive(Drop)]
+#[derive(Clone, Copy)]
 enum Token {
     Passed(u32, usize),
     Bad(u32, u64),

@@ -1,4 +1,6 @@
 // Runs the specimens of document 01 that need single fields and sheets alone, and prints what the code answers: bytes in hexadecimal, or refusal and detail.
+#![tactic(auto)]
+
 mod least_ends; // least_ends.rt: the least end above a prefix
 mod optional; // optional.rt: word 7 on type sheets
 mod searches; // searches.rt: the search for a discriminant, and how many alternatives it looks at

@@ -1,4 +1,6 @@
 // How many zeros were escaped, as the two encoding calls show it. Each line has a call, its refusal, detail, length and zeros, and the bytes it wrote.
+#![tactic(auto)]
+
 use tuple::answers::Encoded;
 use tuple::sheets;
 

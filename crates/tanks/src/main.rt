@@ -1,6 +1,8 @@
 // The ink house's case: tanks whose tags are 0A and 0A 00, alone and inside a record, integers at a change of width, and recipe lines without a supplier's lot. For
 // each pair it prints both keys, the ends that the bounds call gives for the first one's first field, which of the two keys lies between them, and which would with
 // strinc as the upper end. Then the spans of batches of the two tanks.
+#![tactic(auto)]
+
 mod keys; // keys.rt: keys, and whether one lies between two ends
 mod spans; // spans.rt: spans on the next field, and the batches that they take in
 

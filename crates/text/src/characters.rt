@@ -5,7 +5,7 @@ ghost use Rattle.format.specs.Utf8.{first_char, width_of, Shows};
 use super::sequences::{code_of_2, code_of_3, code_of_4, four, three, two};
 
 // A character: its width in bytes, 0 for none, and its code point.
-#[derive(Drop)]
+#[derive(Clone, Copy)]
 pub struct Character {
     pub width: usize,
     pub code: u32,

@@ -1,4 +1,6 @@
 // Text: UTF-8 as in RFC 3629, the character at a place and whether bytes are text.
+#![tactic(auto)]
+
 mod characters;
 mod sequences;
 mod threes;

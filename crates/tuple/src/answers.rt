@@ -16,7 +16,7 @@ use scalar::{GotInt, GotPart};
 
 // Bytes written, an end, a place or a used length.
 #[repr(C)]
-#[derive(Drop)]
+#[derive(Clone, Copy)]
 pub struct Length {
     pub refusal: u32,
     pub detail: u64,
@@ -25,7 +25,7 @@ pub struct Length {
 
 // Bytes written by an encoding call, and the zeros escaped in them.
 #[repr(C)]
-#[derive(Drop)]
+#[derive(Clone, Copy)]
 pub struct Encoded {
     pub refusal: u32,
     pub detail: u64,
@@ -35,7 +35,7 @@ pub struct Encoded {
 
 // Values begun, and the words and pool bytes written.
 #[repr(C)]
-#[derive(Drop)]
+#[derive(Clone, Copy)]
 pub struct Sheet {
     pub refusal: u32,
     pub detail: u64,
@@ -46,7 +46,7 @@ pub struct Sheet {
 
 // The lengths of a lower and an upper end.
 #[repr(C)]
-#[derive(Drop)]
+#[derive(Clone, Copy)]
 pub struct Ends {
     pub refusal: u32,
     pub detail: u64,
@@ -56,7 +56,7 @@ pub struct Ends {
 
 // -1 less, 0 equal, 1 greater.
 #[repr(C)]
-#[derive(Drop)]
+#[derive(Clone, Copy)]
 pub struct Order {
     pub refusal: u32,
     pub detail: u64,
@@ -65,7 +65,7 @@ pub struct Order {
 
 // An integer and how many bytes it took.
 #[repr(C)]
-#[derive(Drop)]
+#[derive(Clone, Copy)]
 pub struct Number {
     pub refusal: u32,
     pub detail: u64,
@@ -75,7 +75,7 @@ pub struct Number {
 
 // Where a payload is: source 1 the key from a place on, 2 the scratch buffer's beginning.
 #[repr(C)]
-#[derive(Drop)]
+#[derive(Clone, Copy)]
 pub struct Part {
     pub refusal: u32,
     pub detail: u64,

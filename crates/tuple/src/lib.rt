@@ -1,4 +1,6 @@
 // The boundary to C: one exported function for each call of the library, its answer a struct of numbers by value. include/tuple.h declares them.
+#![tactic(auto)]
+
 pub mod answers;
 pub mod cursors;
 pub mod fields;

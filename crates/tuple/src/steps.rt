@@ -12,7 +12,7 @@ use cursor::{Cursor, Moved, RecordEnd, Taken, TakenPart};
 
 // A value, and the cursor behind it.
 #[repr(C)]
-#[derive(Drop)]
+#[derive(Clone, Copy)]
 pub struct CursorStep {
     pub refusal: u32,
     pub detail: u64,
@@ -23,7 +23,7 @@ pub struct CursorStep {
 
 // Where a payload is, and the cursor behind its field: source 1 the key from `part` on, 2 the scratch buffer's beginning.
 #[repr(C)]
-#[derive(Drop)]
+#[derive(Clone, Copy)]
 pub struct PartStep {
     pub refusal: u32,
     pub detail: u64,
@@ -36,7 +36,7 @@ pub struct PartStep {
 
 // Given 1 a character's code; given 0 without a refusal the end. The reader's place and flag after the step.
 #[repr(C)]
-#[derive(Drop)]
+#[derive(Clone, Copy)]
 pub struct CharStep {
     pub refusal: u32,
     pub detail: u64,

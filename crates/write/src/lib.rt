@@ -1,4 +1,6 @@
 // The encoder's writing walk. It goes by the value and its depth alone: a value's type has no part in its bytes. The zeros that runs escape are passed upward.
+#![tactic(auto)]
+
 ghost use Rattle.std.specs.Prelude.{◌≡◌, [], ◌∷◌, ◌≤◌, leb, length};
 ghost use Rattle.format.specs.Scalar.{int_bytes, ref_bytes, tag_bytes, escaped};
 ghost use Rattle.format.specs.Encode.{null_bytes};
@@ -9,7 +11,7 @@ ghost use Rattle.write.specs.Write.{standing, group_count, group_bytes, Stored, 
 use scalar::runs::Written;
 
 // Where the walk stands in the words, the pool and the buffer, and how many zeros were escaped on the way there.
-#[derive(Drop)]
+#[derive(Clone, Copy)]
 pub struct Put {
     pub word: usize,
     pub pool: usize,
@@ -166,7 +168,7 @@ fn open_group(out: &mut [u8], at: usize, kind: u64, x: u64) -> usize
 }
 
 // A value that stands at a depth. Its kind says how many words it has: a blank one, so it may be the sheet's last word.
-#[cycle(put_fields_put_value)]
+#[cycle(puts)]
 pub fn put_value(
     words: &[u64],
     pool: &[u8],
@@ -209,7 +211,7 @@ pub fn put_value(
 }
 
 // So many values in a row that stand at a depth: a record's fields, or a union's payload.
-#[cycle(put_fields_put_value)]
+#[cycle(puts)]
 pub fn put_fields(
     words: &[u64],
     pool: &[u8],

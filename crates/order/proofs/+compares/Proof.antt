@@ -5,16 +5,16 @@ use borrow.Fn.PlainCycle.{Measures, is, falls, and}
 use Rattle.order.proofs.Steps as laws
 use Rattle.order.proofs.compare_fields.Reads as compare-fields
 use Rattle.order.proofs.compare_fields.Kinds as compare-fields-kinds
-use Rattle.order.proofs.+compare_fields_compare_value.Lts-compare_fields as compare-fields-lts
+use Rattle.order.proofs.+compares.Lts-compare_fields as compare-fields-lts
 use Rattle.order.proofs.compare_value.Reads as compare-value
 use Rattle.order.proofs.compare_value.Kinds as compare-value-kinds
-use Rattle.order.proofs.+compare_fields_compare_value.Lts-compare_value as compare-value-lts
+use Rattle.order.proofs.+compares.Lts-compare_value as compare-value-lts
 use Rattle.order.proofs.compare_scalar.Reads as compare-scalar-reads
 use Rattle.order.proofs.number_order.Reads as number-order-reads
 use Rattle.order.proofs.rank_of.Reads as rank-of-reads
 use Rattle.order.proofs.stand.Reads as stand-reads
-use Rattle.order.proofs.+compare_fields_compare_value.{statement}
-use Rattle.order.proofs.+compare_fields_compare_value.Tie.{close}
+use Rattle.order.proofs.+compares.{statement}
+use Rattle.order.proofs.+compares.Tie.{close}
 
 -- both go down with the words that are left of the first value
 abbrev μ-compare-fields : Measures 4 compare-fields-kinds.ps ℕ

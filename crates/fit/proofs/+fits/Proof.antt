@@ -13,10 +13,10 @@ use borrow.Fn.Kinds.{In, Out}
 use borrow.Fn.PlainCycle.{Measures, is, falls, and}
 use Rattle.fit.proofs.fit_fields.Reads as fit-fields
 use Rattle.fit.proofs.fit_fields.Kinds as fit-fields-kinds
-use Rattle.fit.proofs.+fit_fields_fit_value.Lts-fit_fields as fit-fields-lts
+use Rattle.fit.proofs.+fits.Lts-fit_fields as fit-fields-lts
 use Rattle.fit.proofs.fit_value.Reads as fit-value
 use Rattle.fit.proofs.fit_value.Kinds as fit-value-kinds
-use Rattle.fit.proofs.+fit_fields_fit_value.Lts-fit_value as fit-value-lts
+use Rattle.fit.proofs.+fits.Lts-fit_value as fit-value-lts
 use Rattle.fit.proofs.fit_leaf.Reads as fit-leaf-reads
 use Rattle.fit.proofs.fit_ref.Reads as fit-ref-reads
 use Rattle.fit.proofs.fit_other.Reads as fit-other-reads
@@ -26,8 +26,8 @@ use Rattle.fit.proofs.in_union.Reads as in-union-reads
 use Rattle.format.proofs.wide_word.Reads as wide-word-reads
 use Rattle.sheet.proofs.alternative.Reads as alternative-reads
 use Rattle.sheet.proofs.asks.Reads as asks-reads
-use Rattle.fit.proofs.+fit_fields_fit_value.{statement}
-use Rattle.fit.proofs.+fit_fields_fit_value.Tie.{close}
+use Rattle.fit.proofs.+fits.{statement}
+use Rattle.fit.proofs.+fits.Tie.{close}
 
 abbrev μ-fit-fields : Measures 3 fit-fields-kinds.ps ℕ
 μ-fit-fields κs a = 2 * (length a.1.0.now - a.1.1.1.1.0) + 1

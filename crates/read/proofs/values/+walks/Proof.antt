@@ -13,13 +13,13 @@ use borrow.Fn.Kinds.{In, Out}
 use borrow.Fn.PlainCycle.{Measures, is, falls, and}
 use Rattle.read.proofs.values.walk_fields.Reads as walk-fields
 use Rattle.read.proofs.values.walk_fields.Kinds as walk-fields-kinds
-use Rattle.read.proofs.values.+walk_fields_walk_plain_walk_value.Lts-walk_fields as walk-fields-lts
+use Rattle.read.proofs.values.+walks.Lts-walk_fields as walk-fields-lts
 use Rattle.read.proofs.values.walk_plain.Reads as walk-plain
 use Rattle.read.proofs.values.walk_plain.Kinds as walk-plain-kinds
-use Rattle.read.proofs.values.+walk_fields_walk_plain_walk_value.Lts-walk_plain as walk-plain-lts
+use Rattle.read.proofs.values.+walks.Lts-walk_plain as walk-plain-lts
 use Rattle.read.proofs.values.walk_value.Reads as walk_value
 use Rattle.read.proofs.values.walk_value.Kinds as walk-value-kinds
-use Rattle.read.proofs.values.+walk_fields_walk_plain_walk_value.Lts-walk_value as walk-value-lts
+use Rattle.read.proofs.values.+walks.Lts-walk_value as walk-value-lts
 use Rattle.read.proofs.answers.bad.Reads as bad-reads
 use Rattle.read.proofs.answers.blank.Reads as blank-reads
 use Rattle.read.proofs.answers.more.Reads as more-reads
@@ -33,8 +33,8 @@ use Rattle.scalar.proofs.groups.open_record.Reads as open-record-reads
 use Rattle.scalar.proofs.groups.open_union.Reads as open-union-reads
 use Rattle.sheet.proofs.alternative.Reads as alternative-reads
 use Rattle.sheet.proofs.skip_type.Reads as skip-type-reads
-use Rattle.read.proofs.values.+walk_fields_walk_plain_walk_value.{statement}
-use Rattle.read.proofs.values.+walk_fields_walk_plain_walk_value.Tie.{close}
+use Rattle.read.proofs.values.+walks.{statement}
+use Rattle.read.proofs.values.+walks.Tie.{close}
 
 abbrev μ-walk-fields : Measures 2 walk-fields-kinds.ps ℕ
 μ-walk-fields κs a = 3 * (length a.0.now - a.1.0) + 2

@@ -12,18 +12,18 @@ use borrow.Fn.Kinds.{In, Out}
 use borrow.Fn.PlainCycle.{Measures, is, falls, and}
 use Rattle.sheet.proofs.types.alternatives_end.Reads as alternatives-end
 use Rattle.sheet.proofs.types.alternatives_end.Kinds as alternatives-end-kinds
-use Rattle.sheet.proofs.types.+alternatives_end_fields_end_group_end_type_end.Lts-alternatives_end as alternatives-end-lts
+use Rattle.sheet.proofs.types.+type_ends.Lts-alternatives_end as alternatives-end-lts
 use Rattle.sheet.proofs.types.fields_end.Reads as fields-end
 use Rattle.sheet.proofs.types.fields_end.Kinds as fields-end-kinds
-use Rattle.sheet.proofs.types.+alternatives_end_fields_end_group_end_type_end.Lts-fields_end as fields-end-lts
+use Rattle.sheet.proofs.types.+type_ends.Lts-fields_end as fields-end-lts
 use Rattle.sheet.proofs.types.group_end.Reads as group_end_lem
 use Rattle.sheet.proofs.types.group_end.Kinds as group-end-kinds
-use Rattle.sheet.proofs.types.+alternatives_end_fields_end_group_end_type_end.Lts-group_end as group-end-lts
+use Rattle.sheet.proofs.types.+type_ends.Lts-group_end as group-end-lts
 use Rattle.sheet.proofs.types.type_end.Reads as type-end
 use Rattle.sheet.proofs.types.type_end.Kinds as type-end-kinds
-use Rattle.sheet.proofs.types.+alternatives_end_fields_end_group_end_type_end.Lts-type_end as type-end-lts
-use Rattle.sheet.proofs.types.+alternatives_end_fields_end_group_end_type_end.{statement}
-use Rattle.sheet.proofs.types.+alternatives_end_fields_end_group_end_type_end.Tie.{close}
+use Rattle.sheet.proofs.types.+type_ends.Lts-type_end as type-end-lts
+use Rattle.sheet.proofs.types.+type_ends.{statement}
+use Rattle.sheet.proofs.types.+type_ends.Tie.{close}
 
 past-four : (k : ℕ) → 4 ≤ k → (k ≡ 4 → ⊥) → 4 < k
 past-four k a b = omega arith

@@ -8,10 +8,10 @@ use Rattle.fill.specs.Fill.{lent, standing}
 use Rattle.fill.proofs.RowLaws as laws
 use Rattle.fill.proofs.groups.fill_fields.Reads as fill-fields
 use Rattle.fill.proofs.groups.fill_fields.Kinds as fill-fields-kinds
-use Rattle.fill.proofs.groups.+fill_fields_fill_group.Lts-fill_fields as fill-fields-lts
+use Rattle.fill.proofs.groups.+groups.Lts-fill_fields as fill-fields-lts
 use Rattle.fill.proofs.groups.fill_group.Reads as fill-group
 use Rattle.fill.proofs.groups.fill_group.Kinds as fill-group-kinds
-use Rattle.fill.proofs.groups.+fill_fields_fill_group.Lts-fill_group as fill-group-lts
+use Rattle.fill.proofs.groups.+groups.Lts-fill_group as fill-group-lts
 use Rattle.fill.proofs.groups.behind.Reads as behind-reads
 use Rattle.fill.proofs.groups.fields_end.Reads as fields-end-reads
 use Rattle.fill.proofs.groups.opens_group.Reads as opens-group-reads
@@ -20,8 +20,8 @@ use Rattle.fill.proofs.leaves.fill_null.Reads as fill-null-reads
 use Rattle.fill.proofs.leaves.fill_uint.Reads as fill-uint-reads
 use Rattle.fill.proofs.leaves.pool_taken.Reads as pool-taken-reads
 use Rattle.fill.proofs.leaves.put_pair.Reads as put-pair-reads
-use Rattle.fill.proofs.groups.+fill_fields_fill_group.{statement}
-use Rattle.fill.proofs.groups.+fill_fields_fill_group.Tie.{close}
+use Rattle.fill.proofs.groups.+groups.{statement}
+use Rattle.fill.proofs.groups.+groups.Tie.{close}
 
 abbrev μ-fill-fields : Measures 3 fill-fields-kinds.ps ℕ
 μ-fill-fields κs a = 2 * (length a.0.now - a.1.0) + 1

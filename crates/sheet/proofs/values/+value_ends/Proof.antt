@@ -10,13 +10,13 @@ use borrow.Fn.Kinds.{In, Out}
 use borrow.Fn.PlainCycle.{Measures, is, falls, and}
 use Rattle.sheet.proofs.values.value_end.Reads as value-end
 use Rattle.sheet.proofs.values.value_end.Kinds as value-end-kinds
-use Rattle.sheet.proofs.values.+value_end_values_end.Lts-value_end as value-end-lts
+use Rattle.sheet.proofs.values.+value_ends.Lts-value_end as value-end-lts
 use Rattle.sheet.proofs.values.values_end.Reads as values-end
 use Rattle.sheet.proofs.values.values_end.Kinds as values-end-kinds
-use Rattle.sheet.proofs.values.+value_end_values_end.Lts-values_end as values-end-lts
+use Rattle.sheet.proofs.values.+value_ends.Lts-values_end as values-end-lts
 use Rattle.sheet.proofs.values.run_end.Reads as run-end-reads
-use Rattle.sheet.proofs.values.+value_end_values_end.{statement}
-use Rattle.sheet.proofs.values.+value_end_values_end.Tie.{close}
+use Rattle.sheet.proofs.values.+value_ends.{statement}
+use Rattle.sheet.proofs.values.+value_ends.Tie.{close}
 
 abbrev μ-value-end : Measures 2 value-end-kinds.ps ℕ
 μ-value-end κs a = 2 * a.1.1.1.1.0

@@ -11,10 +11,10 @@ use Rattle.write.specs.Write.{standing}
 use Rattle.write.proofs.Steps as laws
 use Rattle.write.proofs.put_fields.Reads as put-fields
 use Rattle.write.proofs.put_fields.Kinds as put-fields-kinds
-use Rattle.write.proofs.+put_fields_put_value.Lts-put_fields as put-fields-lts
+use Rattle.write.proofs.+puts.Lts-put_fields as put-fields-lts
 use Rattle.write.proofs.put_value.Reads as put-value
 use Rattle.write.proofs.put_value.Kinds as put-value-kinds
-use Rattle.write.proofs.+put_fields_put_value.Lts-put_value as put-value-lts
+use Rattle.write.proofs.+puts.Lts-put_value as put-value-lts
 use Rattle.write.proofs.count_of.Reads as count-of-reads
 use Rattle.write.proofs.open_group.Reads as open-group-reads
 use Rattle.write.proofs.put_byte.Reads as put-byte-reads
@@ -22,8 +22,8 @@ use Rattle.write.proofs.put_null.Reads as put-null-reads
 use Rattle.write.proofs.put_scalar.Reads as put-scalar-reads
 use Rattle.write.proofs.run_of.Reads as run-of-reads
 use Rattle.write.proofs.stand.Reads as stand-reads
-use Rattle.write.proofs.+put_fields_put_value.{statement}
-use Rattle.write.proofs.+put_fields_put_value.Tie.{close}
+use Rattle.write.proofs.+puts.{statement}
+use Rattle.write.proofs.+puts.Tie.{close}
 
 abbrev μ-put-fields : Measures 3 put-fields-kinds.ps ℕ
 μ-put-fields κs a = 2 * (length a.0.now - a.1.1.1.0) + 1
