@@ -1,0 +1,16 @@
+-- Invariant: while the flag holds, the j bytes passed are alike. The bytes of the block that are left fall.
+use mathlib.Core.Path.{◌≡◌, sym, ◌∙◌}
+use mathlib.Core.Bool.{Bool, true, false}
+use mathlib.Core.Logic.{⊎_elim}
+use Prim.Native.Nat.{ℕ, ◌+◌, ◌-◌, ◌≤◌}
+use native.Mathlib.Omega.{arith}
+use lib.ListN.{length, get_or}
+use Rattle.blocks.specs.Compare.{Same}
+use Rattle.blocks.proofs.Spans.{span_none, span_more}
+use Rattle.blocks.proofs.comparing.same.Given as goal
+
+abbrev pub invariant-loop-j : goal.invariant-loop-j
+invariant-loop-j l = (l.j ≤ l.k) × (l.i + l.k ≤ length l.a) × (l.i + l.k ≤ length l.b) × (l.all ≡ true → Same l.a l.b l.i (l.i + l.j))
+
+abbrev pub decreases-loop-j : goal.decreases-loop-j
+decreases-loop-j l = l.k - l.j

@@ -1,0 +1,18 @@
+-- Invariant: no zero up to the place, and what stands there is copied. What is left of the source falls.
+use borrow.Author.Rules.{rules}
+use mathlib.Core.Path.{◌≡◌, refl, sym}
+use Prim.Native.Nat.{◌+◌, ◌-◌, ◌≤◌}
+use native.Mathlib.Omega.{arith}
+use lib.ListN.{length, get_or}
+use lib.Seq.{slice}
+use Rattle.format.specs.Fields.{put}
+use Rattle.blocks.specs.Zeros.{NoZero}
+use Rattle.blocks.proofs.Spans.{span_join}
+use Rattle.blocks.proofs.Put.{put_none, put_front}
+use Rattle.blocks.proofs.copying.copy_clear.Given as goal
+
+abbrev pub invariant-loop-dst : goal.invariant-loop-dst
+invariant-loop-dst l = (l.i ≤ length l.src) × NoZero l.src 0 l.i × (length l.dst ≡ length l.initial.dst) × (l.dst ≡ put l.initial.dst l.o (slice 0 l.i l.src))
+
+abbrev pub decreases-loop-dst : goal.decreases-loop-dst
+decreases-loop-dst l = length l.src - l.i

@@ -1,0 +1,14 @@
+-- Invariant: all is ASCII up to the place; a block that is moves it by k. What is left falls.
+use borrow.Author.Rules.{rules}
+use Prim.Native.Nat.{◌+◌, ◌-◌, ◌≤◌, ◌<◌}
+use native.Mathlib.Omega.{arith}
+use lib.ListN.{length, get_or}
+use Rattle.blocks.specs.Ascii.{Low}
+use Rattle.blocks.proofs.Spans.{span_join}
+use Rattle.blocks.proofs.low.low_blocks.Given as goal
+
+abbrev pub invariant-loop-i : goal.invariant-loop-i
+invariant-loop-i l = (l.from ≤ l.i) × (l.i ≤ length l.s) × Low l.s l.from l.i
+
+abbrev pub decreases-loop-i : goal.decreases-loop-i
+decreases-loop-i l = length l.s - l.i

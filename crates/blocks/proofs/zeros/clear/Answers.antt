@@ -1,0 +1,44 @@
+use mathlib.Core.Path.{◌≡◌, sym, ◌∙◌}
+use mathlib.Core.Bool.{Bool, true, false}
+use mathlib.Core.Logic.{⊎_elim}
+use Prim.Native.Nat.{ℕ, ◌+◌, ◌-◌, ◌≤◌}
+use native.Mathlib.Omega.{arith}
+use lib.ListN.{length, get_or}
+use Rattle.blocks.specs.Zeros.{NoZero}
+use Rattle.blocks.proofs.Spans.{span_none, span_more}
+use Rattle.blocks.proofs.zeros.clear.Goals as goal
+
+pub overflow_sub-s : goal.overflow_sub-s
+overflow_sub-s c = omega arith
+
+pub returns-then-s-i : goal.returns-then-s-i
+returns-then-s-i c = λ p. let z : ◌≡◌ {A = ℕ} 0 1 = cc in absurd (omega arith)
+
+pub loop-j-init : goal.loop-j-init
+loop-j-init c = (omega arith, omega arith, λ p. span_none _ _)
+
+pub overflow_add-i : goal.overflow_add-i
+overflow_add-i c = omega arith
+
+pub bounds-s-i : goal.bounds-s-i
+bounds-s-i c = omega arith
+
+pub overflow_add-j : goal.overflow_add-j
+overflow_add-j c = omega arith
+
+pub loop-j-smaller : goal.loop-j-smaller
+loop-j-smaller c = omega arith
+
+pub loop-j-preserved : goal.loop-j-preserved
+loop-j-preserved c =
+    (
+  omega arith,
+  omega arith,
+  λ p. ⊎_elim
+      (λ w. let q : ◌≡◌ {A = Bool} false true = sym w.1 ∙ p in let z : ◌≡◌ {A = ℕ} 0 1 = cc in absurd (omega arith))
+      (λ w. span_more (λ k. get_or c.args.s.now k 0 ≡ 0 → ⊥) c.args.i c.loop-j.j (c.loop-j.invariant.2 (sym w.1 ∙ p)) w.0.left)
+      c.if-s-i-eq0.branch,
+    )
+
+pub returns : goal.returns
+returns c = λ p. let e : c.args.k ≡ c.loop-j.j = omega arith in (omega arith, rw e (c.loop-j.invariant.2 p))

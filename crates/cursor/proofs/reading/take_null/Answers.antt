@@ -1,0 +1,10 @@
+-- An escape is due where the depth is not 0, as `null_at` says.
+use Rattle.cursor.proofs.ReadSteps as laws
+use borrow.Author.Rules.{rules}
+use Rattle.cursor.proofs.reading.take_null.Goals as goal
+
+pub moved-requires : goal.moved-requires
+moved-requires c = search laws.step_room
+
+pub returns : goal.returns
+returns c = search laws.null_taken

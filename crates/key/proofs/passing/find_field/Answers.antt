@@ -1,0 +1,34 @@
+-- The key's fields are its first k, the field and those behind it, each passed where the one before ends; all decode where the key does.
+use native.Mathlib.Omega.{arith}
+use Rattle.key.proofs.SpanLaws as laws
+use borrow.Author.Rules.{rules}
+use Rattle.key.proofs.passing.find_field.Goals as goal
+
+pub pass_fields-requires : goal.pass_fields-requires
+pass_fields-requires c = (laws.first_fields {n = c.args.n} (omega (arith, c.requires.1)) c.requires.0, omega arith)
+
+pub pass_value-requires : goal.pass_value-requires
+pass_value-requires c =
+    let first = c.pass_fields.ensures in
+    let to = c.a-1.given.1 in
+    (laws.field_type_lem c.requires.1 first to c.requires.0, laws.start_of c.requires.1 first to c.requires.0)
+
+pub pass_rest-requires : goal.pass_rest-requires
+pass_rest-requires c =
+    let first = c.pass_fields.ensures in
+    let to = c.a-1.given.1 in
+    let value = c.pass_value.ensures in
+    let on = c.behind-1.given.1 in
+    (laws.behind_fields c.requires.1 first to value on c.requires.0, laws.field_end_in c.requires.1 first to value on c.requires.0)
+
+pub returns-in-Refused : goal.returns-in-Refused
+returns-in-Refused c = search laws.find_bad
+
+pub returns-in-Refused-pass_value : goal.returns-in-Refused-pass_value
+returns-in-Refused-pass_value c = search laws.find_field_bad
+
+pub returns-in-Refused-pass_rest : goal.returns-in-Refused-pass_rest
+returns-in-Refused-pass_rest c = search laws.find_rest_bad
+
+pub returns-in-Whole : goal.returns-in-Whole
+returns-in-Whole c = search laws.find_good

@@ -1,0 +1,15 @@
+-- `type_words` meets its contract: the line's words are those read, and then those of the text that is left; a word less is left each turn.
+use mathlib.Core.Path.{◌≡◌, refl, ap, ◌∙◌}
+use Prim.Native.Nat.{◌-◌}
+use native.Mathlib.Omega.{arith}
+use lib.ListN.{length, length-set}
+use borrow.Author.Rules.{rules}
+use Rattle.keylines.proofs.TextLaws.{not_end}
+use Rattle.keylines.proofs.WordLaws as laws
+use Rattle.keylines.proofs.types.type_words.Given as goal
+
+abbrev pub invariant-loop-x : goal.invariant-loop-x
+invariant-loop-x l = laws.WordsTaken l.text l.ty l.start l.n × (length l.ty ≡ length l.initial.ty)
+
+abbrev pub decreases-loop-x : goal.decreases-loop-x
+decreases-loop-x l = length l.text - l.start

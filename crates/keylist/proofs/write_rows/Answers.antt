@@ -1,0 +1,11 @@
+use Prim.Native.Nat.{◌-◌}
+use native.Mathlib.Omega.{arith}
+use lib.ListN.{length}
+use borrow.Author.Rules.{rules}
+use Rattle.keylines.specs.Answers.{PieceAsked}
+use Rattle.keylist.proofs.write_rows.Goals as goal
+
+pub loop-left-smaller : goal.loop-left-smaller
+loop-left-smaller c =
+    let left = c.put_piece-put.ensures in
+    omega (arith, (left.on c.loop-left-test.true).0, left.asked.place)

@@ -1,0 +1,16 @@
+-- The fields that the definition reads bare, with the two words of the record before them.
+use Rattle.read.proofs.KeyLaws as laws
+use native.Mathlib.Omega.{arith}
+use Rattle.read.proofs.keys.walk_bare.Goals as goal
+
+pub bounds-ty-1 : goal.bounds-ty-1
+bounds-ty-1 c = omega (arith, (laws.k_next c.requires.0 c.requires.1).0)
+
+pub walk_fields-requires : goal.walk_fields-requires
+walk_fields-requires c = ((laws.k_next c.requires.0 c.requires.1).1, omega arith)
+
+pub more-requires : goal.more-requires
+more-requires c = (omega arith, omega arith, laws.k_small c.requires.1 c.walk_fields.ensures c.requires.0 (omega (arith, c.well-formed.0.1)))
+
+pub returns : goal.returns
+returns c = rw c.more.ensures (laws.k_record c.requires.1 c.walk_fields.ensures)

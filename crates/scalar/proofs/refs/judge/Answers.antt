@@ -1,0 +1,13 @@
+-- The two tests of `fits_ref` in its order.
+use Rattle.scalar.proofs.References as laws
+use Rattle.std.proofs.Common.{rules}
+use Rattle.scalar.proofs.refs.judge.Goals as goal
+
+pub returns-then-sequence_of-eq0 : goal.returns-then-sequence_of-eq0
+returns-then-sequence_of-eq0 c = search laws.judged_reserved
+
+pub returns-then-found-wide_word : goal.returns-then-found-wide_word
+returns-then-found-wide_word c = search laws.judged_other
+
+pub returns : goal.returns
+returns c = search laws.judged_fits

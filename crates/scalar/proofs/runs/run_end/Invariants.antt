@@ -1,0 +1,11 @@
+-- The loop's invariant: the run ends at the same place, searched from i on or from the start. What falls is the bytes behind i.
+use Rattle.std.proofs.Common.{◌≡◌, ◌-◌, ◌≤◌, length, refl, arith, rules}
+use Rattle.scalar.specs.Runs.{run_end}
+use Rattle.scalar.proofs.Measures as laws
+use Rattle.scalar.proofs.runs.run_end.Given as goal
+
+abbrev pub invariant-loop-z : goal.invariant-loop-z
+invariant-loop-z l = (l.i ≤ length l.bytes) × (run_end l.bytes l.i ≡ run_end l.bytes l.from)
+
+abbrev pub decreases-loop-z : goal.decreases-loop-z
+decreases-loop-z l = length l.bytes - l.i

@@ -1,0 +1,12 @@
+-- The loop's invariant: the run of what is left of the payload, put from o on, makes the whole. What falls is the payload left.
+use Rattle.std.proofs.Common.{◌-◌, ◌≤◌, length, drop, arith, length-set}
+use Rattle.format.specs.Scalar.{escaped}
+use Rattle.blocks.proofs.Put.{Left, left_all}
+use Rattle.scalar.proofs.Writing as laws
+use Rattle.scalar.proofs.runs.write_rest.Given as goal
+
+abbrev pub invariant-loop-z : goal.invariant-loop-z
+invariant-loop-z l = (l.i ≤ length l.payload) × Left l.initial.buf l.at (escaped (drop l.from l.payload)) l.buf l.o (escaped (drop l.i l.payload))
+
+abbrev pub decreases-loop-z : goal.decreases-loop-z
+decreases-loop-z l = length l.payload - l.i

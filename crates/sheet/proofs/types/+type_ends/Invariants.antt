@@ -1,0 +1,35 @@
+-- Each way out of a walk is a law of `TypeWalk`. The loops' invariant (`Run`): all end where those that are left do; how many are left falls.
+-- The measure is thrice the words from the place on, and what tells the members of a turn apart: a group's types stand behind it, and so does that behind a word 7.
+use borrow.Author.Rules.{rules}
+use native.Mathlib.Omega.{arith}
+use Rattle.sheet.proofs.TypeWalk.{none_left, zero_kind, scalar, short, unknown, reference, seven_twice, optional_zero, optional_scalar, optional_short, optional_reference, optional_end, too_deep, record_end, union_end_lem}
+use Rattle.sheet.proofs.TypeWalk.{Run, run_start_lem, fields_done, fields_fail, fields_go, alts_done, alts_fail, alts_go, alts_out}
+use Prim.Native.Nat.{ℕ, ◌+◌, ◌-◌, ◌*◌, ◌≤◌, ◌<◌}
+use mathlib.Core.Path.{◌≡◌}
+use lib.ListN.{length}
+use Rattle.format.specs.TypeSheet.{types, alts, type_at}
+use Rattle.sheet.proofs.types.+type_ends.Given as goal
+
+abbrev pub decreases-alternatives_end : goal.decreases-alternatives_end
+decreases-alternatives_end l = 3 * (length l.ty.now - l.at) + 2
+
+abbrev pub decreases-fields_end : goal.decreases-fields_end
+decreases-fields_end l = 3 * (length l.ty.now - l.at) + 2
+
+abbrev pub decreases-group_end : goal.decreases-group_end
+decreases-group_end l = 3 * (length l.ty.now - l.at)
+
+abbrev pub decreases-type_end : goal.decreases-type_end
+decreases-type_end l = 3 * (length l.ty.now - l.at) + 1
+
+abbrev pub invariant-alternatives_end-loop-left : goal.invariant-alternatives_end-loop-left
+invariant-alternatives_end-loop-left l = Run (alts (type_at l.groups)) l.ty l.at l.count l.left l.place
+
+abbrev pub decreases-alternatives_end-loop-left : goal.decreases-alternatives_end-loop-left
+decreases-alternatives_end-loop-left l = l.left
+
+abbrev pub invariant-fields_end-loop-left : goal.invariant-fields_end-loop-left
+invariant-fields_end-loop-left l = Run (types (type_at l.groups)) l.ty l.at l.count l.left l.place
+
+abbrev pub decreases-fields_end-loop-left : goal.decreases-fields_end-loop-left
+decreases-fields_end-loop-left l = l.left

@@ -1,0 +1,20 @@
+-- Each way out of a walk is a law of `ValueWalk`. The loop's invariant (`Fields`): all end where those that are left do; how many are left falls.
+-- Calls nest by groups: the measure is twice the groups that may still open, and one for a run.
+use borrow.Author.Rules.{rules}
+use native.Mathlib.Omega.{arith}
+use Rattle.sheet.proofs.ValueWalk.{none_left, null, short, integer, reference, is_run, too_deep, unknown, record_end, big_tag, payload, Fields, fields_start, fields_done, fields_fail, fields_go}
+use mathlib.Core.Logic.{⊎_elim}
+use Prim.Native.Nat.{ℕ, ◌+◌, ◌*◌, ◌<◌}
+use Rattle.sheet.proofs.values.+value_ends.Given as goal
+
+abbrev pub decreases-value_end : goal.decreases-value_end
+decreases-value_end l = 2 * l.groups
+
+abbrev pub decreases-values_end : goal.decreases-values_end
+decreases-values_end l = 2 * l.groups + 1
+
+abbrev pub invariant-values_end-loop-left : goal.invariant-values_end-loop-left
+invariant-values_end-loop-left l = Fields l.words l.pool l.at l.from l.count l.groups l.left l.place l.used
+
+abbrev pub decreases-values_end-loop-left : goal.decreases-values_end-loop-left
+decreases-values_end-loop-left l = l.left

@@ -1,0 +1,8 @@
+-- The cursor made of the two numbers, the library's step, and its answer as numbers: what each promises, one after the other.
+use Rattle.format.specs.Cursor as cursor
+use Rattle.tuple.proofs.StepLaws as laws
+use borrow.Author.Rules.{rules}
+use Rattle.tuple.proofs.cursors.tuple_put_union.Goals as goal
+
+pub returns : goal.returns
+returns c = laws.tagged cursor.put_union _ _ _ _ _ _ _ _ _ c.of_wrote.ensures c.put_union.ensures c.cursor_at-c.ensures

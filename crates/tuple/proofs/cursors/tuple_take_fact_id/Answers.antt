@@ -1,0 +1,9 @@
+-- The cursor made of the two numbers, the library's step, and its answer as numbers: what each promises, one after the other.
+use Rattle.format.specs.Cursor as cursor
+use Rattle.tuple.proofs.StepLaws as laws
+use Rattle.tuple.specs.StepNumbers as numbers
+use borrow.Author.Rules.{rules}
+use Rattle.tuple.proofs.cursors.tuple_take_fact_id.Goals as goal
+
+pub returns : goal.returns
+returns c = laws.at_cursor (cursor.take_fact_id _) (numbers.step_of _ _) _ _ _ _ c.of_taken.ensures c.take_fact_id.ensures c.cursor_at-c.ensures

@@ -1,0 +1,7 @@
+-- The library's call, and its answer as numbers: what each promises, one after the other.
+use Rattle.tuple.proofs.Laws as laws
+use borrow.Author.Rules.{rules}
+use Rattle.tuple.proofs.fields.tuple_get_bytes.Goals as goal
+
+pub returns : goal.returns
+returns c = laws.handed _ _ _ _ c.of_part.ensures c.get_bytes.ensures

@@ -1,0 +1,7 @@
+-- The library's call, and its answer as numbers: what each promises, one after the other.
+use Rattle.tuple.proofs.Laws as laws
+use borrow.Author.Rules.{rules}
+use Rattle.tuple.proofs.fields.tuple_put_u64.Goals as goal
+
+pub returns : goal.returns
+returns c = laws.wrote _ _ _ _ c.of_length.ensures c.put_u64.ensures
