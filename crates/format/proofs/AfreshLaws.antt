@@ -1,17 +1,17 @@
 -- A record that encode_key accepts has an admitted sheet: its words are few by its type, its groups by the depth limit, its pool by the key's length.
-use mathlib.Core.Path.{◌≡◌, refl, sym, ap, ◌∙◌, subst}
+use mathlib.Core.Path.{◌≡◌, refl, sym, subst}
 use mathlib.Core.Bool.{Bool, true, false}
 use mathlib.Core.List.{List, [], ◌∷◌, ◌++◌}
 use mathlib.Core.Option.{some}
-use Prim.Native.Nat.{ℕ, suc, ◌+◌, ◌*◌, ◌≤◌, ◌<◌, max}
+use Prim.Native.Nat.{ℕ, ◌+◌, ◌*◌, ◌≤◌, ◌<◌}
 use native.Mathlib.Omega.{arith}
 use lib.Dec.{eqb, lit≤}
 use lib.ListN.{length, length-append}
-use Rattle.format.specs.Answer.{if, Answer, ok, refused, BadRecord}
-use Rattle.format.specs.Tree.{Ty, Tys, Alts, Val, Vals, number_in, run_in, fields_in, payload_in}
+use Rattle.format.specs.Answer.{if}
+use Rattle.format.specs.Tree.{Ty, Tys, Alts, Val, Vals, number_in, fields_in, payload_in}
 use Rattle.format.specs.Sheet.{ty_words, tys_words, alts_words, field_count, val_count, val_words, vals_words, val_pool, vals_pool}
 use Rattle.format.specs.TypeSheet.{type_of, max_type_words}
-use Rattle.format.specs.ValueSheet.{value_of, nesting, nestings, Proper, AllProper, max_value_words}
+use Rattle.format.specs.ValueSheet.{value_of, nesting, nestings, Proper, AllProper}
 use Rattle.format.specs.Scalar.{uint_bytes, escaped}
 use Rattle.format.specs.Encode.{val_bytes, vals_bytes, fits, fits_all, fits_union, in_union, group_at, max_depth, max_key_bytes, fine}
 use Rattle.format.proofs.Tests.{ltb_test, eqb_test, passed}

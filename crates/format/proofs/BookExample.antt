@@ -2,7 +2,6 @@
 use mathlib.Core.Path.{◌≡◌, refl}
 use mathlib.Core.List.{List, [], ◌∷◌}
 use Prim.Native.Nat.{ℕ}
-use native.Mathlib.Omega.{arith}
 use lib.Count.{count_leading_zeros}
 use Rattle.format.specs.Answer.{ok, refused}
 use Rattle.format.specs.Tree.{Ty, Tys, Val, Vals}
@@ -10,7 +9,7 @@ use Rattle.format.specs.Sheet.{field_count, val_count}
 use Rattle.format.specs.TypeSheet.{one_type, types, any_type, type_at, type_of}
 use Rattle.format.specs.ValueSheet.{one_value, values, value_at, value_of}
 use Rattle.format.specs.Scalar.{width, be, uint_bytes, neg_bytes, int_bytes, escaped}
-use Rattle.format.specs.Encode.{encode, key_bytes, encode_key, fits, val_bytes}
+use Rattle.format.specs.Encode.{key_bytes, encode_key, fits, val_bytes}
 use Rattle.format.specs.Read.{number, get_big, width_is, get_uint, get_int, starts_ff, ends_here, get_run, get_bytes}
 use Rattle.format.specs.Decode.{decode, decode_bare, decode_key, whole}
 use Rattle.format.specs.Bounds.{firsts}

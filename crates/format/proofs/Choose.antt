@@ -5,8 +5,7 @@ use mathlib.Core.Bool.{Bool, true, false}
 use mathlib.Core.Option.{Option, some, none}
 use mathlib.Core.Path.{◌≡◌, refl}
 use lib.Dec.{eqb}
-use native.Mathlib.Omega.{arith}
-use Rattle.format.specs.Answer.{Answer, refused, if, UnknownDiscriminant}
+use Rattle.format.specs.Answer.{refused, if, UnknownDiscriminant}
 use Rattle.format.specs.Tree.{Ty, Alts, Val}
 use Rattle.format.specs.Encode.{fits, fits_union, in_union, group_at}
 use Rattle.format.specs.Decode.{Decoded, decode, decode_union, after, union_end}

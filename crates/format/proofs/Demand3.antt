@@ -1,10 +1,9 @@
 -- Demand 3 (specs/Demand3), proved: lists of replacements answer as the plain book, keys compare as their values, and the bounds call cuts out the keys with the same first k fields.
 use mathlib.Core.Path.{◌≡◌, refl, sym, ap, ◌∙◌, subst}
 use mathlib.Core.Bool.{Bool, true, false}
-use mathlib.Core.Logic.{◌↔◌}
-use mathlib.Core.List.{List, [], ◌∷◌, ◌++◌}
+use mathlib.Core.List.{List, [], ◌∷◌}
 use mathlib.Core.Option.{Option, some, none}
-use Prim.Native.Nat.{ℕ, zero, suc, ◌+◌, ◌≤◌, ◌<◌, ◌^◌}
+use Prim.Native.Nat.{ℕ, zero, suc, ◌≤◌, ◌<◌}
 use native.Mathlib.Omega.{arith}
 use lib.Dec.{ltb, leb}
 use lib.ListN.{length, take, drop, length-append, length-drop}
@@ -14,18 +13,15 @@ use Rattle.format.specs.Tree.{Ty, Tys, Val, Vals, fields_in}
 use Rattle.format.specs.Sheet.{field_count, val_count, val_words, val_pool}
 use Rattle.format.specs.TypeSheet.{type_of}
 use Rattle.format.specs.ValueSheet.{value_of, Proper, AllProper}
-use Rattle.format.specs.Encode.{vals_bytes, encode_key, key_bytes, fits_all, max_key_bytes, fine}
-use Rattle.format.specs.Decode.{decode_key}
-use Rattle.format.specs.Order.{cmp_bytes, cmp_val}
-use Rattle.format.specs.Bounds.{above_field, firsts, first_bytes, Between}
+use Rattle.format.specs.Encode.{vals_bytes, encode_key, fits_all, max_key_bytes, fine}
+use Rattle.format.specs.Bounds.{above_field, first_bytes}
 use Rattle.format.specs.Replace.{set_field, spliced}
-use Rattle.format.specs.Calls.{Called, written, over, with_value, with_type, replaced, encode_key_call, replace_call, compare_call, bounds_call, bounded}
+use Rattle.format.specs.Calls.{Called, written, over, with_value, replaced, encode_key_call, replace_call, compare_call, bounds_call}
 use Rattle.format.specs.Book.{Call, Seen, Book, seen_of, call_on, run_calls, left_by, left_in, kept_with, entered, turned_to, reply_of, seen_in, run_book, book_after}
 use Rattle.format.specs.Demand3.{Held, AllHeld, Started, record_of, key_of, AsBook, RefusedAsBook, Ordered, Compared, Bounds, Demand3, Holds}
 use Rattle.format.proofs.Tests.{Test, holds, fails, leb_test, ltb_test, leb_yes, ltb_no, passed}
 use Rattle.format.proofs.Sound.{Sound, AllSound}
 use Rattle.format.proofs.SoundLaws.{admitted_sound}
-use Rattle.format.proofs.TypeLaws as types
 use Rattle.format.proofs.ValueLaws as values
 use Rattle.format.proofs.EncodeLaws.{no_answer, then_ok, fits_count, key_parts, key_made, key_within, key_short, key_order}
 use Rattle.format.proofs.KeyRound.{record_round}

@@ -51,6 +51,7 @@
 -- What the encoder's walks follow:
 -- EncodePlaces   groups from their second word on, and the fields behind the first
 -- FitLaws      what refuses a value, by its kind
+-- FitNumbers   and its numbers, from 6 to 12
 -- PlainLaws    a value that is no group, by its words
 -- TypeKinds    the type at a place by its kind, with its parts
 -- ValueKinds   the value at a place by its kind, with its parts
@@ -61,10 +62,12 @@
 -- What was requested later:
 -- ReferenceSplit   a reference is a predicate of 24 bits and a sequence of 40
 -- SearchLaws   how many alternatives the search for a discriminant looks at
--- Ranges       strinc writes the least end above a prefix, and a span on the next field cuts exactly
+-- Ranges       strinc writes the least end above a prefix, and a span on the next field and a beginning of it cut exactly
 -- RangeExamples   such ends worked by hand, and wrong ones that are not the least
 -- RangeLaws    a key lies in a span on the field behind the first k exactly if these are equal and the next is in it
 -- SpanExamples   spans worked by hand, accepted and refused
+-- StartLaws    between a byte string and its strinc lies exactly what begins with it, and a key begins as a run does exactly if its next field does
+-- StartExamples   beginnings worked by hand, accepted and refused
 -- Blank        optional types: a blank is 00 or 00 FF and sorts first, anything else is the type behind word 7; no 7 straight behind another
 -- ZeroLaws     the zeros escaped in a run, in a value and by a call: those of the pool
 pub mod Specimens
@@ -108,6 +111,7 @@ pub mod SheetExamples
 pub mod AfreshLaws
 pub mod EncodePlaces
 pub mod FitLaws
+pub mod FitNumbers
 pub mod PlainLaws
 pub mod TypeKinds
 pub mod ValueKinds
@@ -119,5 +123,7 @@ pub mod Ranges
 pub mod RangeExamples
 pub mod RangeLaws
 pub mod SpanExamples
+pub mod StartLaws
+pub mod StartExamples
 pub mod Blank
 pub mod ZeroLaws

@@ -1,15 +1,16 @@
 -- The claims of specs/Ranges, proved: an accepted call is taken apart into what it was given, and then the laws of its values say the rest.
 use mathlib.Core.Path.{◌≡◌, refl, sym, ap, ◌∙◌, subst}
 use mathlib.Core.Bool.{Bool, true, false}
+use mathlib.Core.Logic.{◌≢◌}
 use mathlib.Core.List.{List, ◌++◌, append_assoc, append-nil}
 use mathlib.Core.Option.{Option, some, none}
 use Prim.Native.Nat.{Ordering}
 use Prim.Native.Nat.{ℕ, zero, suc, ◌<◌}
 use native.Mathlib.Omega.{arith}
-use lib.Dec.{ltb}
+use lib.Dec.{ltb, eqb}
 use lib.ListN.{length, take, drop}
 use lib.Seq.{take-append_seam}
-use Rattle.format.specs.Answer.{if, Answer, ok, refused, and_then, no_room, NoField}
+use Rattle.format.specs.Answer.{if, Answer, ok, refused, and_then, no_room, NoField, NoBound}
 use Rattle.format.specs.Tree.{Ty, Tys, Val, Vals, val_kind, fields_in}
 use Rattle.format.specs.Sheet.{field_count, val_count}
 use Rattle.format.specs.TypeSheet.{type_of}
@@ -20,16 +21,22 @@ use Rattle.format.specs.Bounds.{strinc, ByteString, Least, firsts, first_bytes}
 use Rattle.format.specs.Replace.{field_at}
 use Rattle.format.specs.Calls.{Called, Ends, Bounded, TwoEnds, over, written, with_type, with_value, with_fields, both_ends, encode_key_call, strinc_call, bounds_call}
 use Rattle.format.specs.Demand3.{Held}
-use Rattle.format.specs.Spans.{first_tys, field_type, with_record, with_next, span_ends, span_of, span_for, span_call, InSpan}
-use Rattle.format.specs.Ranges.{StrincTight, KeyOf, Cuts, SpanExact, SpansExact}
-use Rattle.format.proofs.Tests.{eqb_test, ltb_test, passed, ltb_yes}
+use Rattle.format.specs.Scalar.{run_start}
+use Rattle.format.specs.Spans.{first_tys, field_type, with_record, with_next, span_ends, span_of, span_for, span_call, InSpan, run_mark, with_run, start_end, start_ends, prefix_of, prefix_for, prefix_call, BeginsWith}
+use Rattle.format.specs.Ranges.{StrincTight, KeyOf, Cuts, SpanExact, SpansExact, PrefixExact, PrefixesExact}
+use Rattle.format.proofs.Tests.{Test, holds, fails, eqb_test, ltb_test, passed, failed, ltb_yes}
 use Rattle.format.proofs.KindLaws.{is_record_lem}
+use Rattle.format.proofs.TypePlaces.{ty_kind}
+use Rattle.format.proofs.FitLaws.{typed, types_in}
+use Rattle.format.proofs.TypeKinds.{of_type, no_record}
 use Rattle.format.proofs.Sound.{Sound, AllSound}
 use Rattle.format.proofs.EncodeLaws.{no_answer, then_ok, and_fine, fits_count, key_parts, key_within}
 use Rattle.format.proofs.KeyRound.{record_round}
 use Rattle.format.proofs.StrincLaws.{strinc_least, call_none}
 use Rattle.format.proofs.ReplaceLaws.{field_sound}
 use Rattle.format.proofs.RangeLaws.{span, span_none}
+use Rattle.format.proofs.FitNumbers.{Numbers, fitting_all_lem}
+use Rattle.format.proofs.StartLaws.{has_end, mark_small, run_val, start, end_bytes}
 use Rattle.format.proofs.Demand3.{wrote, key_call, sheet_sound}
 
 -- ---- strinc
@@ -270,3 +277,146 @@ alone ty words pool field_words field_pool lower upper ts v key k t of l first_i
 
 pub spans : SpansExact
 spans = record { exact = exact; alone = alone }
+
+-- ---- an accepted prefix call
+
+run_ok : {A : Type 0} (u : Ty) (f : ℕ → Answer A) {x : A} → with_run u f ≡ ok x → (run_mark u ≢ 0) × (f (run_mark u) ≡ ok x)
+run_ok u f e = failed _ _ (eqb_test (run_mark u) 0) no_answer e
+
+module _ (ty words pool s : List ℕ) where
+  -- the call behind its sheet
+  abbrev with_vals : Ty → Answer TwoEnds
+  with_vals t = with_record (value_of words pool) (λ vs. with_next t (val_count vs) (prefix_of vs s))
+
+  -- what it was given
+  pub record GivenStart (x : TwoEnds) : Type 0 where
+    pub ts : Tys
+    pub vs : Vals
+    pub typed : type_of ty ≡ some (Ty.Record ts)
+    pub first_is : value_of words pool ≡ some (Val.Record vs)
+    pub inside : val_count vs < field_count ts
+    pub marked : run_mark (field_type (val_count vs) ts) ≢ 0
+    pub first_fit : fits_all (first_tys (val_count vs) ts) 0 vs ≡ fine
+    pub low_is : start_end vs (run_mark (field_type (val_count vs) ts)) s ≡ x.low
+    pub high_is : strinc (start_end vs (run_mark (field_type (val_count vs) ts)) s) ≡ ok x.high
+
+  pub given_start : {x : TwoEnds} → prefix_for ty words pool s ≡ ok x → GivenStart x
+  unfolding prefix_for
+  given_start {x} a =
+      let t = type_ok (type_of ty) with_vals a in
+      let vs = record_ok (value_of words pool) (λ vs. with_next t.0 (val_count vs) (prefix_of vs s)) t.2 in
+      let n = next_ok t.0 (val_count vs.0) (prefix_of vs.0 s) vs.2 in
+      let fit = fits_all (first_tys (val_count vs.0) n.0) 0 vs.0 in
+      let r = run_ok (field_type (val_count vs.0) n.0) (λ mark. and_then fit (λ a. start_ends vs.0 mark s)) n.3 in
+      let mark = run_mark (field_type (val_count vs.0) n.0) in
+      let f = then_ok fit (λ a. start_ends vs.0 mark s) r.1 in
+      let h = then_ok (strinc (start_end vs.0 mark s)) (λ high. ok (record { low = start_end vs.0 mark s; high = high })) f.2 in
+      let same : record { low = start_end vs.0 mark s; high = h.0 } ≡ x = cc h.2 in
+      record {
+        ts = n.0;
+        vs = vs.0;
+        typed = t.1 ∙ ap some n.1;
+        first_is = vs.1;
+        inside = n.2;
+        marked = r.0;
+        first_fit = f.1;
+        low_is = ap (λ (y : TwoEnds). y.low) same;
+        high_is = h.1 ∙ ap (λ (y : TwoEnds). ok y.high) same;
+      }
+
+  module _ (hp : Held words pool) (hs : ByteString s) {x : TwoEnds} (g : GivenStart x) where
+    abbrev j : ℕ
+    j = val_count g.vs
+
+    abbrev next : Ty
+    next = field_type j g.ts
+
+    given_sound : AllSound g.vs
+    given_sound = (sheet_sound words pool (Val.Record g.vs) hp g.first_is).0
+
+    prefix_cuts : Cuts ty x.low x.high (λ v. (firsts j (fields_in v) ≡ g.vs) × BeginsWith s (field_at j (fields_in v)))
+    prefix_cuts v key of =
+        let i = key_is_lem g.typed of in
+        let m : j < val_count (fields_in v) = rw (← fits_count g.ts 0 (fields_in v) i.fit) g.inside in
+        let r = run_val next (field_at j (fields_in v)) g.marked (first_fits j g.ts (fields_in v) m i.fit).1 in
+        let c = start j g.vs (fields_in v) (sym (few_first j (fields_in v) m)) m given_sound i.sound (run_mark next) (mark_small next) s x.high g.high_is r in
+        rw (i.bytes, ← g.low_is) (λ b. let y = c.0 b in (sym y.0, y.1), λ y. c.1 (sym y.0, y.1))
+
+    prefix_tight : Least x.low x.high
+    prefix_tight = rw (← g.low_is) (strinc_least (start_end g.vs (run_mark next) s) x.high (end_bytes g.vs (run_mark next) s given_sound (mark_small next) hs) g.high_is)
+
+prefix_exact : (ty words pool s lower upper : List ℕ) (e : Ends) → Held words pool → ByteString s → (prefix_call ty words pool s lower upper).answer ≡ ok e
+    → PrefixExact ty words pool s (take e.lower (prefix_call ty words pool s lower upper).lower) (take e.upper (prefix_call ty words pool s lower upper).upper)
+unfolding prefix_call
+prefix_exact ty words pool s lower upper e hp hs a =
+    let b = ends_ok lower upper (prefix_for ty words pool s) e a in
+    let g = given_start ty words pool s b.1 in
+    record { first = g.vs; first_is = g.first_is; cuts = rw (b.2, b.3) (prefix_cuts ty words pool s hp hs g); tight = rw (b.2, b.3) (prefix_tight ty words pool s hp hs g) }
+
+-- ---- and none without an upper end
+
+-- an answer is not NoBound
+abbrev Ended : {A : Type 0} → Answer A → Type 0
+Ended (ok a) = Unit
+Ended (refused n d) = n ≢ NoBound
+
+ended_if : {A : Type 0} (b : Bool) (x y : Answer A) → Ended x → Ended y → Ended (if b x y)
+ended_if true x y p q = p
+ended_if false x y p q = q
+
+fit_ended : {A : Type 0} (a : Answer Unit) (f : Unit → Answer A) → Numbers a → ((u : Unit) → Ended (f u)) → Ended (and_then a f)
+fit_ended (ok u) f p q = q u
+fit_ended (refused n d) f p q = λ e. omega (arith, p.to)
+
+type_ended : {A : Type 0} (o : Option Ty) (f : Ty → Answer A) → ((t : Ty) → Ended (f t)) → Ended (with_type o f)
+type_ended (some t) f p = p t
+type_ended none f p = λ e. omega arith
+
+record_ended : {A : Type 0} (o : Option Val) (f : Vals → Answer A) → ((vs : Vals) → Ended (f vs)) → Ended (with_record o f)
+record_ended (some v) f p = ended_if (eqb (val_kind v) 5) _ _ (p (fields_in v)) (λ e. omega arith)
+record_ended none f p = λ e. omega arith
+
+fields_ended : {A : Type 0} (t : Ty) (f : Tys → Answer A) → ((ts : Tys) → Ended (f ts)) → Ended (with_fields t f)
+unfolding typed
+fields_ended t f p = go (eqb (ty_kind t) 5) (eqb_test (ty_kind t) 5)
+  where
+    go : (b : Bool) → Test (ty_kind t ≡ 5) (ty_kind t ≢ 5) b → Ended (with_fields t f)
+    go _ (holds e) = of_type (λ (u : Ty). Ended (with_fields u f)) 5 t e (p (types_in t))
+    go _ (fails n) = rw ((no_record t n).fields f) (λ e. omega arith)
+
+-- the ends of any k values, any type's mark and any s: the mark is below FF
+start_ended : (vs : Vals) (u : Ty) (s : List ℕ) → Ended (start_ends vs (run_mark u) s)
+start_ended vs u s = rw (has_end (vals_bytes 0 vs) (run_mark u) (run_start s) (mark_small u)).1 tt
+
+both_ended : (lower upper : List ℕ) (a : Answer TwoEnds) → Ended a → Ended (both_ends lower upper a).answer
+both_ended lower upper (refused n d) p = p
+both_ended lower upper (ok x) p = go (ltb (length lower) (length x.low)) (ltb (length upper) (length x.high))
+  where
+    go : (b c : Bool) → Ended (ends_left lower upper x b c).answer
+    go true c = λ e. omega arith
+    go false true = λ e. omega arith
+    go false false = tt
+
+-- the k values, the next field's kind and its beginning, under any type
+next_ended : (t : Ty) (k : ℕ) (vs : Vals) (s : List ℕ) → Ended (with_next t k (prefix_of vs s))
+next_ended t k vs s = fields_ended t (λ ts. if (ltb k (field_count ts)) (prefix_of vs s (first_tys k ts) (field_type k ts)) (refused NoField 0)) each
+  where
+    each : (ts : Tys) → Ended (if (ltb k (field_count ts)) (prefix_of vs s (first_tys k ts) (field_type k ts)) (refused NoField 0))
+    each ts =
+        let u = field_type k ts in
+        let fit = fits_all (first_tys k ts) 0 vs in
+        let judged : Ended (and_then fit (λ a. start_ends vs (run_mark u) s)) = fit_ended fit (λ a. start_ends vs (run_mark u) s) (fitting_all_lem (first_tys k ts) 0 vs) (λ a. start_ended vs u s) in
+        ended_if (ltb k (field_count ts)) _ _ (ended_if (eqb (run_mark u) 0) _ _ (λ e. omega arith) judged) (λ e. omega arith)
+
+call_ended : (ty words pool s lower upper : List ℕ) → Ended (prefix_call ty words pool s lower upper).answer
+unfolding prefix_call prefix_for
+call_ended ty words pool s lower upper =
+    both_ended lower upper (with_type (type_of ty) (with_vals ty words pool s)) (type_ended (type_of ty) (with_vals ty words pool s) (λ t.
+    record_ended (value_of words pool) (λ vs. with_next t (val_count vs) (prefix_of vs s)) (λ vs. next_ended t (val_count vs) vs s)))
+
+not_bound : {A : Type 0} (a : Answer A) (d : ℕ) → Ended a → a ≢ refused NoBound d
+not_bound (ok x) d p e = let y : ◌≡◌ {A = ℕ} 0 1 = cc in omega arith
+not_bound (refused n c) d p e = p cc
+
+pub prefixes : PrefixesExact
+prefixes = record { exact = prefix_exact; bounded = λ ty words pool s lower upper d. not_bound _ d (call_ended ty words pool s lower upper) }

@@ -2,7 +2,7 @@
 use mathlib.Core.Path.{◌≡◌, refl, ap}
 use Prim.Native.Nat.{ℕ, zero, suc, ◌<◌}
 use native.Mathlib.Omega.{arith}
-use Rattle.format.specs.Tree.{Ty, Alts}
+use Rattle.format.specs.Tree.{Alts}
 use Rattle.format.specs.Sheet.{alt_count}
 use Rattle.format.specs.Search.{looked, HasTag, LookedAt}
 use Rattle.format.proofs.Tests.{eqb_yes, eqb_no}

@@ -1,5 +1,5 @@
 -- A bare record decoded in parts: its first k fields, and then the others from the place where these end. What the bounds call and replacement walk by.
-use mathlib.Core.Path.{◌≡◌, refl, sym, ap, ◌∙◌, subst}
+use mathlib.Core.Path.{◌≡◌, refl, sym, ap, ◌∙◌}
 use mathlib.Core.List.{List, [], ◌∷◌, ◌++◌, append_assoc}
 use Prim.Native.Nat.{ℕ, zero, suc, ◌+◌, ◌-◌, ◌≤◌, ◌<◌}
 use native.Mathlib.Omega.{arith}
@@ -9,9 +9,9 @@ use lib.Seq.{take-append_seam}
 use Rattle.format.specs.Answer.{UnexpectedMark}
 use Rattle.format.specs.Tree.{Ty, Tys, Val, Vals}
 use Rattle.format.specs.Sheet.{field_count, val_count, ty_words, tys_words}
-use Rattle.format.specs.Encode.{val_bytes, vals_bytes}
+use Rattle.format.specs.Encode.{vals_bytes}
 use Rattle.format.specs.Decode.{Decoded, after, both, decode, decode_bare, decode_key, whole}
-use Rattle.format.specs.Bounds.{firsts, rests, first_bytes}
+use Rattle.format.specs.Bounds.{firsts, first_bytes}
 use Rattle.format.specs.Replace.{field_at}
 use Rattle.format.specs.Spans.{first_tys, field_type}
 use Rattle.format.proofs.Bytes.{AllBytes}

@@ -25,11 +25,11 @@ one_more b l h t (suc i) = t i
 
 -- ---- byte by byte: b in front of the end of what follows; where that has none, one more than b, or none for FF
 
-abbrev end_after : ℕ → Answer (List ℕ) → Answer (List ℕ)
+abbrev pub end_after : ℕ → Answer (List ℕ) → Answer (List ℕ)
 end_after b (ok q) = ok (b ∷ q)
 end_after b (refused n d) = if (eqb b 0xFF) (refused NoBound 0) (ok (suc b ∷ []))
 
-strinc_step : (b : ℕ) (p : List ℕ) → strinc (b ∷ p) ≡ end_after b (strinc p)
+pub strinc_step : (b : ℕ) (p : List ℕ) → strinc (b ∷ p) ≡ end_after b (strinc p)
 unfolding strinc trimmed raised
 strinc_step b p = go (trimmed p)
   where
@@ -41,7 +41,7 @@ strinc_step b p = go (trimmed p)
     go [] = last (eqb b 0xFF)
     go (c ∷ s) = refl
 
-strinc_nil : strinc [] ≡ refused NoBound 0
+pub strinc_nil : strinc [] ≡ refused NoBound 0
 unfolding strinc trimmed
 strinc_nil = refl
 

@@ -1,7 +1,7 @@
 -- The trees of a type sheet by their places: what a walk over an admitted sheet goes by.
 use Prim.Native.Nat.{ℕ, ◌+◌, ◌≤◌, ◌<◌}
 use mathlib.Core.List.{List, [], ◌∷◌, ◌++◌}
-use mathlib.Core.Path.{◌≡◌, refl, ap, ◌∙◌}
+use mathlib.Core.Path.{◌≡◌, ap, ◌∙◌}
 use lib.ListN.{length, drop, get_or}
 use Rattle.format.specs.Tree.{Ty, Tys, Alts}
 use Rattle.format.specs.Sheet.{ty_words, tys_words, alts_words, field_count, alt_count}

@@ -5,7 +5,7 @@ use mathlib.Core.List.{List}
 use Prim.Native.Nat.{ℕ, ◌+◌, ◌<◌}
 use native.Mathlib.Omega.{arith}
 use lib.ListN.{length, get_or}
-use Rattle.format.specs.Tree.{Val, Vals, val_kind, number_in, fields_in, payload_in}
+use Rattle.format.specs.Tree.{Val, Vals, number_in, fields_in, payload_in}
 use Rattle.format.specs.Sheet.{val_words, val_pool, val_count}
 use Rattle.format.proofs.KindLaws.{built}
 use Rattle.format.proofs.FitLaws.{of_value}

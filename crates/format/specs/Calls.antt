@@ -1,7 +1,7 @@
 -- What each call answers, and what its lent buffers hold afterwards, for all arguments: sheets first (BadType, BadValue), then the refusals of the
 -- definitions, NoRoom last with the units needed. A refused call leaves every buffer as it was.
-use Prim.Native.Nat.{ℕ, ◌+◌, ◌-◌, ◌≤◌, Ordering}
-use Rattle.std.specs.Prelude.{List, ◌∷◌, ◌++◌, Bool, ltb, leb, length, take, drop}
+use Prim.Native.Nat.{ℕ, Ordering}
+use Rattle.std.specs.Prelude.{List, ◌++◌, Bool, ltb, leb, length, take, drop}
 use Rattle.std.proofs.Math.Option.{Option, some, none}
 use Rattle.format.specs.Answer.{if, Answer, ok, refused, and_then, no_room, BadType, BadValue, NoField}
 use Rattle.format.specs.Tree.{Ty, Tys, Val, Vals, fields_in}

@@ -1,5 +1,5 @@
 -- StrChars, the string reader: the bytes behind the mark, a place and a finished flag; each step gives a character, the end or a refusal.
-use Rattle.std.specs.Prelude.{ℕ, ◌+◌, List, [], ◌∷◌, Bool, true, false, ltb, leb, eqb, length, take, drop}
+use Rattle.std.specs.Prelude.{ℕ, ◌+◌, List, [], ◌∷◌, Bool, true, false, ltb, eqb, length, take, drop}
 use Rattle.format.specs.Answer.{if, Answer, ok, refused, UnexpectedEof, UnexpectedMark, BadString}
 use Rattle.format.specs.Utf8.{first_char, code_of, utf8, within}
 use Rattle.format.specs.Read.{starts_ff}

@@ -1,13 +1,13 @@
 -- The reading and the writing cursor: a place and a depth, by value. After a refusal the cursor is the one given.
-use Rattle.std.specs.Prelude.{ℕ, ◌+◌, ◌-◌, List, [], ◌∷◌, Bool, false, ltb, leb, eqb, length, drop}
-use Rattle.format.specs.Answer.{if, Answer, ok, refused, and_then, no_room, UnexpectedEof, UnexpectedMark, BadString, BadRecord}
+use Rattle.std.specs.Prelude.{ℕ, ◌+◌, ◌-◌, List, [], ◌∷◌, Bool, false, ltb, eqb, length, drop}
+use Rattle.format.specs.Answer.{if, Answer, ok, refused, and_then, UnexpectedEof, UnexpectedMark, BadString, BadRecord}
 use Rattle.format.specs.Scalar.{int_bytes, uint_bytes, str_bytes, bytes_bytes, ref_bytes, tag_bytes}
 use Rattle.format.specs.Utf8.{utf8}
 use Rattle.format.specs.Encode.{max_depth, null_bytes}
 use Rattle.format.specs.Read.{Read, get_int, get_uint, get_str, get_bytes, get_fact_id, ends_here}
 pub use Rattle.format.specs.Read.{null_at}
 use Rattle.format.specs.Calls.{Called}
-use Rattle.format.specs.Fields.{Taken, Place, Payload, placed_from, put_at}
+use Rattle.format.specs.Fields.{Place, Payload, placed_from, put_at}
 
 pub record Cursor : Type 0 where
   pub at : ℕ

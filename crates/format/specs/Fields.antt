@@ -1,6 +1,6 @@
 -- Single fields outside a tree: what the get and put calls answer, and where a payload lies.
 use Rattle.std.specs.Prelude.{ℕ, ◌+◌, ◌-◌, List, [], ◌∷◌, ◌++◌, Bool, true, false, ltb, leb, eqb, length, take, drop}
-use Rattle.format.specs.Answer.{if, Answer, ok, refused, and_then, no_room, BadString}
+use Rattle.format.specs.Answer.{if, Answer, ok, refused, no_room, BadString}
 use Rattle.format.specs.Scalar.{int_bytes, uint_bytes, str_bytes, bytes_bytes, ref_bytes}
 use Rattle.format.specs.Utf8.{utf8}
 use Rattle.format.specs.Read.{Read, get_int, get_uint, get_str, get_bytes}

@@ -4,7 +4,7 @@ use Rattle.std.proofs.Math.Option.{Option, some, none}
 use Rattle.format.specs.Answer.{if, Answer, ok, refused, BadType, BadLine}
 use Rattle.format.specs.Utf8.{within}
 use Rattle.format.specs.TypeSheet.{keep, is_some, type_of}
-use Rattle.format.specs.Calls.{Checked, check_key_call}
+use Rattle.format.specs.Calls.{check_key_call}
 
 -- standard input of at most 65,536 bytes
 abbrev pub max_input : ℕ

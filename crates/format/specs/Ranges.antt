@@ -1,6 +1,6 @@
 -- What is claimed of ends of ranges beside demand 3, about the very definitions that the contracts cite (proofs/Ranges has the proofs).
 use Prim.Native.Nat.{Ordering}
-use Rattle.std.specs.Prelude.{ℕ, suc, ◌<◌, List, ◌≡◌, ◌↔◌, take}
+use Rattle.std.specs.Prelude.{ℕ, suc, ◌<◌, List, ◌≡◌, ◌≢◌, ◌↔◌, take}
 use Rattle.std.proofs.Math.Option.{some}
 use Rattle.format.specs.Answer.{ok, refused, NoBound}
 use Rattle.format.specs.Tree.{Ty, Tys, Val, Vals, fields_in}
@@ -12,7 +12,7 @@ use Rattle.format.specs.Bounds.{ByteString, Above, Least, firsts, Between}
 use Rattle.format.specs.Replace.{field_at}
 use Rattle.format.specs.Calls.{Ends, encode_key_call, strinc_call, bounds_call}
 use Rattle.format.specs.Demand3.{Held}
-use Rattle.format.specs.Spans.{span_call, InSpan}
+use Rattle.format.specs.Spans.{span_call, InSpan, prefix_call, BeginsWith}
 
 -- strinc is tight (U10), for every prefix and every lent buffer: of all byte strings above every byte string that begins with the prefix, the one that an
 -- accepted call leaves is the least; and a call is NoBound exactly where there is none
@@ -60,3 +60,20 @@ pub record SpansExact : Type 0 where
   pub alone : (ty words pool field_words field_pool lower upper : List ℕ) (ts : Tys) (v : Val) (key : List ℕ) (k : ℕ) → type_of ty ≡ some (Ty.Record ts) → KeyOf ty v key
       → k < val_count (fields_in v) → value_of words pool ≡ some (Val.Record (firsts k (fields_in v))) → value_of field_words field_pool ≡ some (field_at k (fields_in v))
       → span_call ty words pool field_words field_pool field_words field_pool lower upper ≡ bounds_call ty key (suc k) lower upper
+
+-- ---- the beginning of a run in the next field (U13)
+
+-- two ends, and the values of the sheet that they were made of
+pub record PrefixExact (ty words pool s low high : List ℕ) : Type 0 where
+  pub first : Vals
+  pub first_is : value_of words pool ≡ some (Val.Record first)
+  -- between them lie exactly the keys whose first k fields are equal and whose next begins with the bytes of s, which a blank never does
+  pub cuts : Cuts ty low high (λ v. (firsts (val_count first) (fields_in v) ≡ first) × BeginsWith s (field_at (val_count first) (fields_in v)))
+  -- and the upper end is the least above all that begins with the lower (U10)
+  pub tight : Least low high
+
+-- every accepted call is exact; and none is NoBound: the lower end has the field's mark, which is below FF, so strinc finds a byte to add one to
+pub record PrefixesExact : Type 0 where
+  pub exact : (ty words pool s lower upper : List ℕ) (e : Ends) → Held words pool → ByteString s → (prefix_call ty words pool s lower upper).answer ≡ ok e
+      → PrefixExact ty words pool s (take e.lower (prefix_call ty words pool s lower upper).lower) (take e.upper (prefix_call ty words pool s lower upper).upper)
+  pub bounded : (ty words pool s lower upper : List ℕ) (d : ℕ) → (prefix_call ty words pool s lower upper).answer ≢ refused NoBound d

@@ -33,6 +33,11 @@ unfoldable pub escaped : List ℕ → List ℕ
 escaped [] = 0 ∷ []
 escaped (b ∷ bs) = if (eqb b 0) (0 ∷ 0xFF ∷ escaped bs) (b ∷ escaped bs)
 
+-- the beginning of a run, before its end: each 00 as 00 FF
+unfoldable pub run_start : List ℕ → List ℕ
+run_start [] = []
+run_start (b ∷ bs) = if (eqb b 0) (0 ∷ 0xFF ∷ run_start bs) (b ∷ run_start bs)
+
 -- Str is 21 and a run
 abbrev pub str_bytes : List ℕ → List ℕ
 str_bytes s = 0x21 ∷ escaped s

@@ -1,7 +1,7 @@
 -- How many alternatives the search for a discriminant looks at: request U3's claim (proofs/SearchLaws has the proof).
 use Rattle.std.specs.Prelude.{ℕ, zero, suc, ◌<◌, ◌≡◌, eqb}
 use Rattle.format.specs.Answer.{if}
-use Rattle.format.specs.Tree.{Ty, Alts}
+use Rattle.format.specs.Tree.{Alts}
 use Rattle.format.specs.Sheet.{alt_count}
 
 -- one for each alternative up to the first with the tag, that one too

@@ -1,15 +1,17 @@
--- A span on the field behind the first k (U1): two ends that are written from values.
+-- Two ends that are written from values: a span on the field behind the first k (U1), and the beginning of a run in that field (U13).
 use Prim.Native.Nat.{Ordering}
-use Rattle.std.specs.Prelude.{ℕ, zero, suc, List, ◌++◌, ◌≢◌, ltb, eqb}
+use Rattle.std.specs.Prelude.{ℕ, zero, suc, List, ◌∷◌, ◌++◌, ◌≡◌, ◌≢◌, ltb, eqb}
 use Rattle.std.proofs.Math.Option.{Option, some, none}
 use Rattle.format.specs.Answer.{if, Answer, ok, refused, and_then, BadValue, NoField}
 use Rattle.format.specs.Tree.{Ty, Tys, Val, Vals, val_kind, fields_in}
 use Rattle.format.specs.Sheet.{field_count, val_count}
 use Rattle.format.specs.TypeSheet.{type_of}
 use Rattle.format.specs.ValueSheet.{value_of}
+use Rattle.format.specs.Scalar.{run_start}
 use Rattle.format.specs.Encode.{val_bytes, vals_bytes, fits, fits_all}
 use Rattle.format.specs.Order.{cmp_val}
 use Rattle.format.specs.Bounds.{above_field}
+use Rattle.format.specs.Bounds.{strinc}
 use Rattle.format.specs.Calls.{with_type, with_value, with_fields, TwoEnds, both_ends, Bounded}
 
 -- ---- the first k field values
@@ -59,3 +61,57 @@ span_call ty words pool low_words low_pool high_words high_pool lower upper = bo
 pub record InSpan (lo hi v : Val) : Type 0 where
   pub from_lowest : cmp_val lo v ≢ Ordering.gt
   pub to_highest : cmp_val v hi ≢ Ordering.gt
+
+-- ---- the beginning of a run in the next field
+
+-- the mark of a Str or a Bytes, of an optional one too; 0 where the type is another
+abbrev pub run_mark : Ty → ℕ
+run_mark Ty.Int = 0
+run_mark Ty.Str = 0x21
+run_mark Ty.Bytes = 0x53
+run_mark (Ty.Ref p) = 0
+run_mark (Ty.Record ts) = 0
+run_mark (Ty.Union us) = 0
+run_mark (Ty.Optional t) = run_mark t
+
+-- with that mark; a type of another kind is NoField
+abbrev pub with_run : {A : Type 0} → Ty → (ℕ → Answer A) → Answer A
+with_run u f = if (eqb (run_mark u) 0) (refused NoField 0) (f (run_mark u))
+
+-- the mark and the bytes of s, each 00 as 00 FF, before the run's end
+abbrev pub field_start : (mark : ℕ) → (s : List ℕ) → List ℕ
+field_start mark s = mark ∷ run_start s
+
+-- the k fields, and that
+abbrev pub start_end : Vals → (mark : ℕ) → (s : List ℕ) → List ℕ
+start_end vs mark s = vals_bytes 0 vs ++ field_start mark s
+
+-- that, and strinc of it
+abbrev pub start_ends : Vals → (mark : ℕ) → (s : List ℕ) → Answer TwoEnds
+start_ends vs mark s = and_then (strinc (start_end vs mark s)) (λ high. ok (record { low = start_end vs mark s; high = high }))
+
+-- NoField by the next field's kind, before what refuses the k values under their types; else the ends
+abbrev pub prefix_of : Vals → (s : List ℕ) → Tys → Ty → Answer TwoEnds
+prefix_of vs s ts u = with_run u (λ mark. and_then (fits_all ts 0 vs) (λ a. start_ends vs mark s))
+
+-- BadType; BadValue; NoField; what refuses the k values
+unfoldable pub prefix_for : (ty words pool s : List ℕ) → Answer TwoEnds
+prefix_for ty words pool s = with_type (type_of ty) (λ t. with_record (value_of words pool) (λ vs. with_next t (val_count vs) (prefix_of vs s)))
+
+-- and then NoRoom
+unfoldable pub prefix_call : (ty words pool s lower upper : List ℕ) → Bounded
+prefix_call ty words pool s lower upper = both_ends lower upper (prefix_for ty words pool s)
+
+-- x begins with the bytes of s
+abbrev pub Begins : (s x : List ℕ) → Type 0
+Begins s x = (rest : List ℕ) × (x ≡ s ++ rest)
+
+-- a Str or Bytes whose bytes begin with those of s; a blank never does
+abbrev pub BeginsWith : List ℕ → Val → Type 0
+BeginsWith s Val.Null = ⊥
+BeginsWith s (Val.Int w) = ⊥
+BeginsWith s (Val.Str x) = Begins s x
+BeginsWith s (Val.Bytes x) = Begins s x
+BeginsWith s (Val.Ref r) = ⊥
+BeginsWith s (Val.Record vs) = ⊥
+BeginsWith s (Val.Union d v) = ⊥

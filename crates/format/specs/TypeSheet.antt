@@ -1,5 +1,5 @@
 -- A type sheet: the tree that its words write down, if they are admitted. Words are u32: that each is below 2^32 is the code's type.
-use Rattle.std.specs.Prelude.{ℕ, zero, suc, ◌≤◌, max, List, [], ◌∷◌, ◌++◌, Bool, true, false, ◌≡◌, leb, eqb, length}
+use Rattle.std.specs.Prelude.{ℕ, zero, suc, ◌≤◌, max, List, [], ◌∷◌, Bool, true, false, ◌≡◌, leb, eqb, length}
 use Rattle.std.proofs.Math.Option.{Option, some, none}
 use Rattle.format.specs.Answer.{if}
 use Rattle.format.specs.Tree.{Ty, Tys, Alts}

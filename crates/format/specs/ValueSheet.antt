@@ -1,5 +1,5 @@
 -- A value sheet: the tree that its words and its pool write down, if they are admitted. Words are u64 and the pool is bytes: the code's types.
-use Rattle.std.specs.Prelude.{ℕ, zero, suc, ◌≤◌, ◌<◌, ◌^◌, max, List, [], ◌∷◌, ◌++◌, Bool, true, false, ◌&&◌, ◌≡◌, leb, ltb, length, take, drop}
+use Rattle.std.specs.Prelude.{ℕ, zero, suc, ◌≤◌, ◌<◌, ◌^◌, max, List, [], ◌∷◌, Bool, true, false, ◌&&◌, ◌≡◌, leb, ltb, length, take, drop}
 use Rattle.std.proofs.Math.Option.{Option, some, none}
 use Rattle.format.specs.Tree.{Val, Vals}
 use Rattle.format.specs.Sheet.{val_words, val_pool}

@@ -1,7 +1,7 @@
 -- The character at the front of bytes: how wide it is, and which bytes it depends on.
 use Prim.Native.Nat.{ℕ, zero, suc, ◌+◌, ◌≤◌, ◌<◌}
 use mathlib.Core.List.{List, [], ◌∷◌, ◌++◌}
-use mathlib.Core.Bool.{Bool, true, false, and_false}
+use mathlib.Core.Bool.{Bool, true, false, and-false}
 use mathlib.Core.Path.{◌≡◌, refl, ap}
 use native.Mathlib.Omega.{arith}
 use lib.Dec.{ltb}
@@ -113,11 +113,11 @@ char_append (a ∷ r) t h = there (ltb a 0x80) 1 a (second a (r ++ t)) (second a
 
 no_lead3 : (a : ℕ) → lead3 a 0 ≡ false
 unfolding lead3
-no_lead3 a = simp and_false
+no_lead3 a = simp and-false
 
 no_lead4 : (a : ℕ) → lead4 a 0 ≡ false
 unfolding lead4
-no_lead4 a = simp and_false
+no_lead4 a = simp and-false
 
 fourth_b0 : (a c : ℕ) (t : List ℕ) → fourth a 0 c t ≡ none
 unfolding fourth
@@ -127,11 +127,11 @@ fourth_b0 a c (d ∷ t) = rw (no_lead4 a)
 fourth_c0 : (a b : ℕ) (t : List ℕ) → fourth a b 0 t ≡ none
 unfolding fourth
 fourth_c0 a b [] = refl
-fourth_c0 a b (d ∷ t) = simp and_false
+fourth_c0 a b (d ∷ t) = simp and-false
 
 fourth_zero : (a b c : ℕ) (r t : List ℕ) → fourth a b c (r ++ 0 ∷ t) ≡ fourth a b c r
 unfolding fourth
-fourth_zero a b c [] t = simp and_false
+fourth_zero a b c [] t = simp and-false
 fourth_zero a b c (d ∷ r) t = refl
 
 third_b0 : (a : ℕ) (t : List ℕ) → third a 0 t ≡ none
@@ -141,12 +141,12 @@ third_b0 a (c ∷ t) = rw (no_lead3 a) (fourth_b0 a c t)
 
 third_zero : (a b : ℕ) (r t : List ℕ) → third a b (r ++ 0 ∷ t) ≡ third a b r
 unfolding third
-third_zero a b [] t = simp and_false (fourth_c0 a b t)
+third_zero a b [] t = simp and-false (fourth_c0 a b t)
 third_zero a b (c ∷ r) t = ap (when (is3 a b c) (char 3 (code3 a b c))) (fourth_zero a b c r t)
 
 second_zero : (a : ℕ) (r t : List ℕ) → second a (r ++ 0 ∷ t) ≡ second a r
 unfolding second
-second_zero a [] t = simp and_false (third_b0 a t)
+second_zero a [] t = simp and-false (third_b0 a t)
 second_zero a (b ∷ r) t = ap (when (is2 a b) (char 2 (code2 a b))) (third_zero a b r t)
 
 pub char_zero : (b : ℕ) (r t : List ℕ) → first_char (b ∷ (r ++ 0 ∷ t)) ≡ first_char (b ∷ r)

@@ -1,6 +1,6 @@
 -- The ranges of bytes, from what a branch says, and the bounds that a test gives.
 use Prim.Native.Nat.{ℕ, ◌≤◌, ◌<◌}
-use mathlib.Core.Bool.{Bool, true, false, ◌&&◌, ◌||◌, or_false}
+use mathlib.Core.Bool.{Bool, true, false, ◌&&◌, ◌||◌, or-false}
 use mathlib.Core.Logic.{◌⊎◌, inl, inr, ⊎_elim}
 use mathlib.Core.Path.{◌≡◌, refl, ap, sym, ◌∙◌}
 use native.Mathlib.Omega.{arith}
@@ -37,11 +37,11 @@ and_stop x y e t = ap (λ (z : Bool). z && y) (sym t ∙ e)
 module _ (a b : ℕ) where
   pub lead3_first : a ≡ 0xE0 → within 0xA0 0xBF b ≡ lead3 a b
   unfolding lead3
-  lead3_first e = rw (eq-eqb a 0xE0 e, below 0xE1 0xEC a (omega arith), ne_eqb a 0xED (λ z. omega arith), below 0xEE 0xEF a (omega arith)) (simp or_false)
+  lead3_first e = rw (eq-eqb a 0xE0 e, below 0xE1 0xEC a (omega arith), ne_eqb a 0xED (λ z. omega arith), below 0xEE 0xEF a (omega arith)) (simp or-false)
 
   pub lead3_surrogate : a ≡ 0xED → within 0x80 0x9F b ≡ lead3 a b
   unfolding lead3
-  lead3_surrogate e = rw (ne_eqb a 0xE0 (λ z. omega arith), above 0xE1 0xEC a (omega arith), eq-eqb a 0xED e, below 0xEE 0xEF a (omega arith)) (simp or_false)
+  lead3_surrogate e = rw (ne_eqb a 0xE0 (λ z. omega arith), above 0xE1 0xEC a (omega arith), eq-eqb a 0xED e, below 0xEE 0xEF a (omega arith)) (simp or-false)
 
   pub lead3_low : (a ≡ 0xE0 → ⊥) → a < 0xE1 → false ≡ lead3 a b
   unfolding lead3
@@ -58,14 +58,14 @@ module _ (a b : ℕ) where
       go : (x : Bool) → leb a 0xEC ≡ x → is_tail b ≡ lead3 a b
       go true e =
           let k = leb-true a 0xEC e in
-          rw (ne_eqb a 0xE0 n, inside 0xE1 0xEC a l k, ne_eqb a 0xED m, below 0xEE 0xEF a (omega arith)) (simp or_false)
+          rw (ne_eqb a 0xE0 n, inside 0xE1 0xEC a l k, ne_eqb a 0xED m, below 0xEE 0xEF a (omega arith)) (simp or-false)
       go false e =
           let k = leb-false a 0xEC e in
           rw (ne_eqb a 0xE0 n, above 0xE1 0xEC a k, ne_eqb a 0xED m, inside 0xEE 0xEF a (omega arith) h)
 
   pub lead4_first : a ≡ 0xF0 → within 0x90 0xBF b ≡ lead4 a b
   unfolding lead4
-  lead4_first e = rw (eq-eqb a 0xF0 e, below 0xF1 0xF3 a (omega arith), ne_eqb a 0xF4 (λ z. omega arith)) (simp or_false)
+  lead4_first e = rw (eq-eqb a 0xF0 e, below 0xF1 0xF3 a (omega arith), ne_eqb a 0xF4 (λ z. omega arith)) (simp or-false)
 
   pub lead4_last : a ≡ 0xF4 → within 0x80 0x8F b ≡ lead4 a b
   unfolding lead4
@@ -81,7 +81,7 @@ module _ (a b : ℕ) where
 
   pub lead4_plain : (a ≡ 0xF0 → ⊥) → (a ≡ 0xF4 → ⊥) → 0xF1 ≤ a → a ≤ 0xF3 → is_tail b ≡ lead4 a b
   unfolding lead4
-  lead4_plain n m l h = rw (ne_eqb a 0xF0 n, inside 0xF1 0xF3 a l h, ne_eqb a 0xF4 m) (simp or_false)
+  lead4_plain n m l h = rw (ne_eqb a 0xF0 n, inside 0xF1 0xF3 a l h, ne_eqb a 0xF4 m) (simp or-false)
 
 -- bounds from tests that held
 and_both : (x y : Bool) → (x && y) ≡ true → (x ≡ true) × (y ≡ true)

@@ -1,6 +1,5 @@
 -- Where the two first differ, or the shorter ends, decides: `differ_at` says that all before it is alike.
 use Rattle.blocks.proofs.Orders.{both_end, a_ends, b_ends, byte_less, byte_more}
-use borrow.Author.Rules.{rules}
 use Rattle.blocks.proofs.comparing.compare.Goals as goal
 
 pub returns-then-b-i : goal.returns-then-b-i

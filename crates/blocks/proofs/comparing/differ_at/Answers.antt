@@ -1,20 +1,16 @@
-use borrow.Author.Rules.{rules}
 use mathlib.Core.Path.{◌≡◌}
-use Prim.Native.Nat.{◌-◌, ◌≤◌}
 use native.Mathlib.Omega.{arith}
-use lib.ListN.{length, get_or}
-use Rattle.blocks.specs.Compare.{Same}
+use lib.ListN.{get_or}
 use Rattle.blocks.proofs.Spans.{span_one, span_join}
 use Rattle.blocks.proofs.comparing.differ_at.Goals as goal
 
 pub loop-i-init : goal.loop-i-init
-loop-i-init c =
-    (
-      omega arith,
-      omega arith,
-      span_join (λ k. get_or c.args.a.now k 0 ≡ get_or c.args.b.now k 0) 0 c.past_same-narrow.result c.past_same-i.result
-          (span_join (λ k. get_or c.args.a.now k 0 ≡ get_or c.args.b.now k 0) 0 c.past_same-wide.result c.past_same-narrow.result c.past_same-wide.ensures.3 c.past_same-narrow.ensures.3) c.past_same-i.ensures.3,
-    )
+loop-i-init c = (
+  omega arith,
+  omega arith,
+  span_join (λ k. get_or c.args.a.now k 0 ≡ get_or c.args.b.now k 0) 0 c.past_same-narrow.result c.past_same-i.result
+      (span_join (λ k. get_or c.args.a.now k 0 ≡ get_or c.args.b.now k 0) 0 c.past_same-wide.result c.past_same-narrow.result c.past_same-wide.ensures.3 c.past_same-narrow.ensures.3) c.past_same-i.ensures.3,
+)
 
 pub returns-then-b-i : goal.returns-then-b-i
 returns-then-b-i c = record { in_a = c.loop-i.invariant.0; in_b = c.loop-i.invariant.1; same = c.loop-i.invariant.2; differ = λ h g. absurd (omega arith) }

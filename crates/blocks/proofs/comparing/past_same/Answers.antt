@@ -1,9 +1,7 @@
-use borrow.Author.Rules.{rules}
 use mathlib.Core.Path.{◌≡◌}
-use Prim.Native.Nat.{◌+◌, ◌-◌, ◌≤◌}
+use Prim.Native.Nat.{◌+◌}
 use native.Mathlib.Omega.{arith}
-use lib.ListN.{length, get_or}
-use Rattle.blocks.specs.Compare.{Same}
+use lib.ListN.{get_or}
 use Rattle.blocks.proofs.Spans.{span_join}
 use Rattle.blocks.proofs.comparing.past_same.Goals as goal
 

@@ -1,11 +1,7 @@
 -- Invariant: both are alike from the start up to the place; a block that is alike moves it by k. What is left of the first falls.
-use borrow.Author.Rules.{rules}
-use mathlib.Core.Path.{◌≡◌}
-use Prim.Native.Nat.{◌+◌, ◌-◌, ◌≤◌}
-use native.Mathlib.Omega.{arith}
-use lib.ListN.{length, get_or}
+use Prim.Native.Nat.{◌-◌, ◌≤◌}
+use lib.ListN.{length}
 use Rattle.blocks.specs.Compare.{Same}
-use Rattle.blocks.proofs.Spans.{span_join}
 use Rattle.blocks.proofs.comparing.past_same.Given as goal
 
 abbrev pub invariant-loop-i : goal.invariant-loop-i

@@ -1,12 +1,11 @@
 use mathlib.Core.Path.{◌≡◌, sym, ◌∙◌}
 use mathlib.Core.Bool.{Bool, true, false}
-use mathlib.Core.Logic.{⊎_elim}
-use Prim.Native.Nat.{ℕ, ◌+◌, ◌-◌, ◌≤◌}
+use Prim.Native.Nat.{ℕ}
 use native.Mathlib.Omega.{arith}
-use lib.ListN.{length, get_or}
-use Rattle.blocks.specs.Compare.{Same}
+use lib.ListN.{get_or}
 use Rattle.blocks.proofs.Spans.{span_none, span_more}
 use Rattle.blocks.proofs.comparing.same.Goals as goal
+use Rattle.blocks.proofs.comparing.same.Goals.{then-a-i-2, else-a-i-2}
 
 pub overflow_sub-a : goal.overflow_sub-a
 overflow_sub-a c = omega arith
@@ -47,10 +46,10 @@ loop-j-preserved c =
       omega arith,
       omega arith,
       omega arith,
-      λ p. ⊎_elim
-          (λ w. let q : ◌≡◌ {A = Bool} false true = sym w.1 ∙ p in let z : ◌≡◌ {A = ℕ} 0 1 = cc in absurd (omega arith))
-          (λ w. span_more (λ k. get_or a.a.now k 0 ≡ get_or a.b.now k 0) a.i c.loop-j.j (c.loop-j.invariant.3 (sym w.1 ∙ p)) w.0.left)
-          c.if-a-i-2.branch,
+      λ p. elim c.if-a-i-2.branch [
+        | then-a-i-2 w ↦ let q : ◌≡◌ {A = Bool} false true = sym w.all-is ∙ p in cc
+        | else-a-i-2 w ↦ span_more (λ k. get_or a.a.now k 0 ≡ get_or a.b.now k 0) a.i c.loop-j.j (c.loop-j.invariant.3 (sym w.all-is ∙ p)) w.if-a-i-2.false
+      ],
     )
 
 pub returns : goal.returns

@@ -1,12 +1,9 @@
 -- Invariant: while the flag holds, the j bytes passed are alike. The bytes of the block that are left fall.
-use mathlib.Core.Path.{◌≡◌, sym, ◌∙◌}
-use mathlib.Core.Bool.{Bool, true, false}
-use mathlib.Core.Logic.{⊎_elim}
-use Prim.Native.Nat.{ℕ, ◌+◌, ◌-◌, ◌≤◌}
-use native.Mathlib.Omega.{arith}
-use lib.ListN.{length, get_or}
+use mathlib.Core.Path.{◌≡◌}
+use mathlib.Core.Bool.{true}
+use Prim.Native.Nat.{◌+◌, ◌-◌, ◌≤◌}
+use lib.ListN.{length}
 use Rattle.blocks.specs.Compare.{Same}
-use Rattle.blocks.proofs.Spans.{span_none, span_more}
 use Rattle.blocks.proofs.comparing.same.Given as goal
 
 abbrev pub invariant-loop-j : goal.invariant-loop-j

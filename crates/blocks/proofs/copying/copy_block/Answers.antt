@@ -1,5 +1,4 @@
 -- What was put into the array stands at its front, and is what the second copy puts.
-use borrow.Author.Rules.{rules}
 use mathlib.Core.Path.{◌≡◌, ◌∙◌}
 use Prim.Native.Nat.{◌+◌}
 use native.Mathlib.Omega.{arith}

@@ -1,11 +1,7 @@
-use borrow.Author.Rules.{rules}
 use mathlib.Core.Path.{◌≡◌, refl, sym}
-use Prim.Native.Nat.{◌+◌, ◌-◌, ◌≤◌}
+use Prim.Native.Nat.{◌+◌}
 use native.Mathlib.Omega.{arith}
-use lib.ListN.{length, get_or}
-use lib.Seq.{slice}
-use Rattle.format.specs.Fields.{put}
-use Rattle.blocks.specs.Zeros.{NoZero}
+use lib.ListN.{get_or}
 use Rattle.blocks.proofs.Spans.{span_join}
 use Rattle.blocks.proofs.Put.{put_none, put_front}
 use Rattle.blocks.proofs.copying.copy_clear.Goals as goal

@@ -1,14 +1,10 @@
 -- Invariant: no zero up to the place, and what stands there is copied. What is left of the source falls.
-use borrow.Author.Rules.{rules}
-use mathlib.Core.Path.{◌≡◌, refl, sym}
-use Prim.Native.Nat.{◌+◌, ◌-◌, ◌≤◌}
-use native.Mathlib.Omega.{arith}
-use lib.ListN.{length, get_or}
+use mathlib.Core.Path.{◌≡◌}
+use Prim.Native.Nat.{◌-◌, ◌≤◌}
+use lib.ListN.{length}
 use lib.Seq.{slice}
 use Rattle.format.specs.Fields.{put}
 use Rattle.blocks.specs.Zeros.{NoZero}
-use Rattle.blocks.proofs.Spans.{span_join}
-use Rattle.blocks.proofs.Put.{put_none, put_front}
 use Rattle.blocks.proofs.copying.copy_clear.Given as goal
 
 abbrev pub invariant-loop-dst : goal.invariant-loop-dst

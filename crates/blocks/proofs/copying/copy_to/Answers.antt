@@ -1,8 +1,7 @@
 use mathlib.Core.Path.{◌≡◌}
-use Prim.Native.Nat.{◌-◌, ◌≤◌}
 use native.Mathlib.Omega.{arith}
-use lib.Seq.{slice, length-slice, slice_empty}
-use Rattle.blocks.proofs.Put.{Left, left_all, left_store, left_none}
+use lib.Seq.{length-slice, slice_empty}
+use Rattle.blocks.proofs.Put.{left_all, left_store, left_none}
 use Rattle.blocks.proofs.Spans.{slice_one}
 use Rattle.blocks.proofs.copying.copy_to.Goals as goal
 
@@ -25,12 +24,11 @@ pub loop-j-smaller : goal.loop-j-smaller
 loop-j-smaller c = omega arith
 
 pub loop-j-preserved : goal.loop-j-preserved
-loop-j-preserved c =
-    (
-      omega arith,
-      left_store (omega (arith, length-slice c.args.i c.args.e c.args.src.now (omega arith)))
-          (rw (slice_one c.args.src.now c.loop-j.j c.args.e (omega arith) (omega arith)) at c.loop-j.invariant.1),
-    )
+loop-j-preserved c = (
+  omega arith,
+  left_store (omega (arith, length-slice c.args.i c.args.e c.args.src.now (omega arith)))
+      (rw (slice_one c.args.src.now c.loop-j.j c.args.e (omega arith) (omega arith)) at c.loop-j.invariant.1),
+)
 
 pub shape_of-dst : goal.shape_of-dst
 shape_of-dst c = c.loop-j.invariant.1.long

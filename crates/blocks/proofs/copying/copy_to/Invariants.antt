@@ -1,10 +1,7 @@
 -- Invariant: what is left to copy, put from here on, gives the whole copy. The bytes left fall.
-use mathlib.Core.Path.{◌≡◌}
 use Prim.Native.Nat.{◌-◌, ◌≤◌}
-use native.Mathlib.Omega.{arith}
-use lib.Seq.{slice, length-slice, slice_empty}
-use Rattle.blocks.proofs.Put.{Left, left_all, left_store, left_none}
-use Rattle.blocks.proofs.Spans.{slice_one}
+use lib.Seq.{slice}
+use Rattle.blocks.proofs.Put.{Left}
 use Rattle.blocks.proofs.copying.copy_to.Given as goal
 
 abbrev pub invariant-loop-j : goal.invariant-loop-j

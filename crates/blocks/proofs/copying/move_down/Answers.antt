@@ -1,9 +1,9 @@
 use native.Mathlib.Nat.{add-zero, sub-zero}
 use mathlib.Core.Path.{◌≡◌, refl, sym, ◌∙◌}
-use Prim.Native.Nat.{◌+◌, ◌-◌, ◌≤◌}
+use Prim.Native.Nat.{◌+◌, ◌-◌}
 use native.Mathlib.Omega.{arith}
-use lib.ListN.{length, length-set}
-use Rattle.blocks.proofs.Moves.{moved, moved_none, move_first}
+use lib.ListN.{length-set}
+use Rattle.blocks.proofs.Moves.{moved_none, move_first}
 use Rattle.blocks.proofs.copying.move_down.Goals as goal
 
 pub loop-j-init : goal.loop-j-init

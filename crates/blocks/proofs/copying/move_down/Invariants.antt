@@ -1,10 +1,8 @@
 -- Invariant: moving what is left gives the whole move, since a byte is read before its place is written. The bytes left fall.
-use native.Mathlib.Nat.{add-zero, sub-zero}
-use mathlib.Core.Path.{◌≡◌, refl, sym, ◌∙◌}
+use mathlib.Core.Path.{◌≡◌}
 use Prim.Native.Nat.{◌+◌, ◌-◌, ◌≤◌}
-use native.Mathlib.Omega.{arith}
-use lib.ListN.{length, length-set}
-use Rattle.blocks.proofs.Moves.{moved, moved_none, move_first}
+use lib.ListN.{length}
+use Rattle.blocks.proofs.Moves.{moved}
 use Rattle.blocks.proofs.copying.move_down.Given as goal
 
 abbrev pub invariant-loop-j : goal.invariant-loop-j

@@ -1,8 +1,7 @@
 use mathlib.Core.Path.{◌≡◌, refl, sym, ◌∙◌}
-use Prim.Native.Nat.{◌≤◌}
 use native.Mathlib.Omega.{arith}
-use lib.ListN.{length, length-set}
-use Rattle.blocks.proofs.Moves.{moved, moved_none, move_last}
+use lib.ListN.{length-set}
+use Rattle.blocks.proofs.Moves.{moved_none, move_last}
 use Rattle.blocks.proofs.copying.move_up.Goals as goal
 
 pub loop-j-init : goal.loop-j-init

@@ -1,9 +1,8 @@
 -- Invariant: moving the bytes before the place gives the whole move; they go from the last to the first. The place falls.
-use mathlib.Core.Path.{◌≡◌, refl, sym, ◌∙◌}
+use mathlib.Core.Path.{◌≡◌}
 use Prim.Native.Nat.{◌≤◌}
-use native.Mathlib.Omega.{arith}
-use lib.ListN.{length, length-set}
-use Rattle.blocks.proofs.Moves.{moved, moved_none, move_last}
+use lib.ListN.{length}
+use Rattle.blocks.proofs.Moves.{moved}
 use Rattle.blocks.proofs.copying.move_up.Given as goal
 
 abbrev pub invariant-loop-j : goal.invariant-loop-j

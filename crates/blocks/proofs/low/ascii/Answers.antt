@@ -1,9 +1,8 @@
 use mathlib.Core.Path.{◌≡◌}
-use Prim.Native.Nat.{ℕ, ◌+◌, ◌-◌, ◌≤◌, ◌<◌}
+use Prim.Native.Nat.{ℕ, ◌+◌, ◌<◌}
 use native.Mathlib.Omega.{arith}
-use lib.ListN.{length, get_or}
+use lib.ListN.{get_or}
 use borrow.Author.Tests.{ltb-true}
-use Rattle.blocks.specs.Ascii.{Low}
 use Rattle.blocks.proofs.Spans.{span_none, span_more, or_below}
 use Rattle.blocks.proofs.low.ascii.Goals as goal
 
@@ -29,13 +28,12 @@ pub loop-j-smaller : goal.loop-j-smaller
 loop-j-smaller c = omega arith
 
 pub loop-j-preserved : goal.loop-j-preserved
-loop-j-preserved c =
-    (
-      omega arith,
-      omega arith,
-      λ p. let b = or_below c.loop-j.n (get_or c.args.s.now (c.args.i + c.loop-j.j) 0) 0x80 p in span_more (λ k. get_or c.args.s.now k 0 < 0x80) c.args.i c.loop-j.j
-          (c.loop-j.invariant.2 b.0) b.1,
-    )
+loop-j-preserved c = (
+  omega arith,
+  omega arith,
+  λ p. let b = or_below c.loop-j.n (get_or c.args.s.now (c.args.i + c.loop-j.j) 0) 0x80 p in span_more (λ k. get_or c.args.s.now k 0 < 0x80) c.args.i c.loop-j.j
+      (c.loop-j.invariant.2 b.0) b.1,
+)
 
 pub returns : goal.returns
 returns c = λ p. let e : c.args.k ≡ c.loop-j.j = omega arith in (omega arith, rw e (c.loop-j.invariant.2 (ltb-true _ _ p)))

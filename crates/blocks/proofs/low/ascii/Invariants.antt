@@ -1,11 +1,7 @@
 -- Invariant: where all bytes met, or-ed together, are below 80, the j bytes passed are ASCII. The bytes of the block that are left fall.
-use mathlib.Core.Path.{◌≡◌}
-use Prim.Native.Nat.{ℕ, ◌+◌, ◌-◌, ◌≤◌, ◌<◌}
-use native.Mathlib.Omega.{arith}
-use lib.ListN.{length, get_or}
-use borrow.Author.Tests.{ltb-true}
+use Prim.Native.Nat.{◌+◌, ◌-◌, ◌≤◌, ◌<◌}
+use lib.ListN.{length}
 use Rattle.blocks.specs.Ascii.{Low}
-use Rattle.blocks.proofs.Spans.{span_none, span_more, or_below}
 use Rattle.blocks.proofs.low.ascii.Given as goal
 
 abbrev pub invariant-loop-j : goal.invariant-loop-j

@@ -1,8 +1,6 @@
-use borrow.Author.Rules.{rules}
-use Prim.Native.Nat.{◌+◌, ◌-◌, ◌≤◌, ◌<◌}
+use Prim.Native.Nat.{◌+◌, ◌<◌}
 use native.Mathlib.Omega.{arith}
-use lib.ListN.{length, get_or}
-use Rattle.blocks.specs.Ascii.{Low}
+use lib.ListN.{get_or}
 use Rattle.blocks.proofs.Spans.{span_join}
 use Rattle.blocks.proofs.low.low_blocks.Goals as goal
 

@@ -1,10 +1,7 @@
 -- Invariant: all is ASCII up to the place; a block that is moves it by k. What is left falls.
-use borrow.Author.Rules.{rules}
-use Prim.Native.Nat.{◌+◌, ◌-◌, ◌≤◌, ◌<◌}
-use native.Mathlib.Omega.{arith}
-use lib.ListN.{length, get_or}
+use Prim.Native.Nat.{◌-◌, ◌≤◌}
+use lib.ListN.{length}
 use Rattle.blocks.specs.Ascii.{Low}
-use Rattle.blocks.proofs.Spans.{span_join}
 use Rattle.blocks.proofs.low.low_blocks.Given as goal
 
 abbrev pub invariant-loop-i : goal.invariant-loop-i

@@ -3,7 +3,6 @@ use Prim.Native.Nat.{◌<◌}
 use native.Mathlib.Omega.{arith}
 use lib.ListN.{length, get_or}
 use Rattle.blocks.proofs.Spans.{span_join}
-use borrow.Author.Rules.{rules}
 use Rattle.blocks.proofs.low.low_rest.Goals as goal
 
 pub returns-then-ascii : goal.returns-then-ascii

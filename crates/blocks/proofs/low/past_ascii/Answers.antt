@@ -3,7 +3,6 @@ use Prim.Native.Nat.{ℕ, ◌<◌}
 use native.Mathlib.Omega.{arith}
 use lib.ListN.{get_or}
 use Rattle.blocks.proofs.Spans.{span_join}
-use borrow.Author.Rules.{rules}
 use Rattle.blocks.proofs.low.past_ascii.Goals as goal
 
 pub low_rest-requires : goal.low_rest-requires

@@ -1,12 +1,11 @@
 use mathlib.Core.Path.{◌≡◌, sym, ◌∙◌}
 use mathlib.Core.Bool.{Bool, true, false}
-use mathlib.Core.Logic.{⊎_elim}
-use Prim.Native.Nat.{ℕ, ◌+◌, ◌-◌, ◌≤◌}
+use Prim.Native.Nat.{ℕ}
 use native.Mathlib.Omega.{arith}
-use lib.ListN.{length, get_or}
-use Rattle.blocks.specs.Zeros.{NoZero}
+use lib.ListN.{get_or}
 use Rattle.blocks.proofs.Spans.{span_none, span_more}
 use Rattle.blocks.proofs.zeros.clear.Goals as goal
+use Rattle.blocks.proofs.zeros.clear.Goals.{then-s-i-eq0, else-s-i-eq0}
 
 pub overflow_sub-s : goal.overflow_sub-s
 overflow_sub-s c = omega arith
@@ -30,15 +29,14 @@ pub loop-j-smaller : goal.loop-j-smaller
 loop-j-smaller c = omega arith
 
 pub loop-j-preserved : goal.loop-j-preserved
-loop-j-preserved c =
-    (
+loop-j-preserved c = (
   omega arith,
   omega arith,
-  λ p. ⊎_elim
-      (λ w. let q : ◌≡◌ {A = Bool} false true = sym w.1 ∙ p in let z : ◌≡◌ {A = ℕ} 0 1 = cc in absurd (omega arith))
-      (λ w. span_more (λ k. get_or c.args.s.now k 0 ≡ 0 → ⊥) c.args.i c.loop-j.j (c.loop-j.invariant.2 (sym w.1 ∙ p)) w.0.left)
-      c.if-s-i-eq0.branch,
-    )
+  λ p. elim c.if-s-i-eq0.branch [
+    | then-s-i-eq0 w ↦ let q : ◌≡◌ {A = Bool} false true = sym w.none-is ∙ p in cc
+    | else-s-i-eq0 w ↦ span_more (λ k. get_or c.args.s.now k 0 ≡ 0 → ⊥) c.args.i c.loop-j.j (c.loop-j.invariant.2 (sym w.none-is ∙ p)) w.if-s-i-eq0.false
+  ],
+)
 
 pub returns : goal.returns
 returns c = λ p. let e : c.args.k ≡ c.loop-j.j = omega arith in (omega arith, rw e (c.loop-j.invariant.2 p))

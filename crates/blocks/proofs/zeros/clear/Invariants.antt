@@ -1,12 +1,9 @@
 -- Invariant: while the flag holds, the j bytes passed have no zero. The bytes of the block that are left fall.
-use mathlib.Core.Path.{◌≡◌, sym, ◌∙◌}
-use mathlib.Core.Bool.{Bool, true, false}
-use mathlib.Core.Logic.{⊎_elim}
-use Prim.Native.Nat.{ℕ, ◌+◌, ◌-◌, ◌≤◌}
-use native.Mathlib.Omega.{arith}
-use lib.ListN.{length, get_or}
+use mathlib.Core.Path.{◌≡◌}
+use mathlib.Core.Bool.{true}
+use Prim.Native.Nat.{◌+◌, ◌-◌, ◌≤◌}
+use lib.ListN.{length}
 use Rattle.blocks.specs.Zeros.{NoZero}
-use Rattle.blocks.proofs.Spans.{span_none, span_more}
 use Rattle.blocks.proofs.zeros.clear.Given as goal
 
 abbrev pub invariant-loop-j : goal.invariant-loop-j

@@ -1,9 +1,6 @@
-use borrow.Author.Rules.{rules}
-use mathlib.Core.Path.{◌≡◌}
-use Prim.Native.Nat.{◌+◌, ◌-◌, ◌≤◌}
+use Prim.Native.Nat.{◌+◌}
 use native.Mathlib.Omega.{arith}
-use lib.ListN.{length, drop}
-use Rattle.format.specs.Zeros.{zeros}
+use lib.ListN.{length}
 use Rattle.format.proofs.ZeroLaws.{zeros_le}
 use Rattle.blocks.proofs.Counts.{zeros_chunk, zeros_rest, zeros_few}
 use Rattle.blocks.proofs.zeros.count_zeros.Goals as goal

@@ -1,12 +1,8 @@
 -- Invariant: the zeros counted and those that are left are all of them. What is left falls by a part of at most 240 bytes.
-use borrow.Author.Rules.{rules}
 use mathlib.Core.Path.{◌≡◌}
 use Prim.Native.Nat.{◌+◌, ◌-◌, ◌≤◌}
-use native.Mathlib.Omega.{arith}
 use lib.ListN.{length, drop}
 use Rattle.format.specs.Zeros.{zeros}
-use Rattle.format.proofs.ZeroLaws.{zeros_le}
-use Rattle.blocks.proofs.Counts.{zeros_chunk, zeros_rest, zeros_few}
 use Rattle.blocks.proofs.zeros.count_zeros.Given as goal
 
 abbrev pub invariant-loop-i : goal.invariant-loop-i

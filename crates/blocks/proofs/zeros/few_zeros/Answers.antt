@@ -1,11 +1,7 @@
-use mathlib.Core.Path.{◌≡◌}
-use mathlib.Core.Logic.{⊎_elim}
-use Prim.Native.Nat.{◌+◌, ◌-◌, ◌≤◌}
 use native.Mathlib.Omega.{arith}
-use lib.Seq.{slice}
-use Rattle.format.specs.Zeros.{zeros}
 use Rattle.blocks.proofs.Counts.{here_zero, here_byte, here_none, zeros_few}
 use Rattle.blocks.proofs.zeros.few_zeros.Goals as goal
+use Rattle.blocks.proofs.zeros.few_zeros.Goals.{then-s-j-eq0, else-s-j-eq0}
 
 pub loop-j-init : goal.loop-j-init
 loop-j-init c = omega arith
@@ -23,14 +19,13 @@ pub loop-j-smaller : goal.loop-j-smaller
 loop-j-smaller c = omega arith
 
 pub loop-j-preserved : goal.loop-j-preserved
-loop-j-preserved c =
-    (
+loop-j-preserved c = (
   omega arith,
-  ⊎_elim
-      (λ w. omega (arith, here_zero c.args.s.now c.loop-j.j c.args.e (omega arith) (omega arith) w.0.taken))
-      (λ w. omega (arith, here_byte c.args.s.now c.loop-j.j c.args.e (omega arith) (omega arith) w.0.left))
-      c.if-s-j-eq0.branch,
-    )
+  elim c.if-s-j-eq0.branch [
+    | then-s-j-eq0 w ↦ omega (arith, here_zero c.args.s.now c.loop-j.j c.args.e (omega arith) (omega arith) w.if-s-j-eq0.true)
+    | else-s-j-eq0 w ↦ omega (arith, here_byte c.args.s.now c.loop-j.j c.args.e (omega arith) (omega arith) w.if-s-j-eq0.false)
+  ],
+)
 
 pub returns : goal.returns
 returns c = omega (arith, here_none c.args.s.now c.loop-j.j c.args.e (omega arith) c.loop-j-test.false)

@@ -1,11 +1,8 @@
 -- Invariant: the zeros counted and those that are left are all of the part's, at most 240, so a byte holds them. What is left falls.
 use mathlib.Core.Path.{◌≡◌}
-use mathlib.Core.Logic.{⊎_elim}
 use Prim.Native.Nat.{◌+◌, ◌-◌, ◌≤◌}
-use native.Mathlib.Omega.{arith}
 use lib.Seq.{slice}
 use Rattle.format.specs.Zeros.{zeros}
-use Rattle.blocks.proofs.Counts.{here_zero, here_byte, here_none, zeros_few}
 use Rattle.blocks.proofs.zeros.few_zeros.Given as goal
 
 abbrev pub invariant-loop-j : goal.invariant-loop-j

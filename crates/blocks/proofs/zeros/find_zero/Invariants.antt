@@ -1,11 +1,7 @@
 -- Invariant: no zero up to the place, first by blocks and then byte by byte. What is left falls.
-use borrow.Author.Rules.{rules}
-use mathlib.Core.Path.{◌≡◌}
 use Prim.Native.Nat.{◌-◌, ◌≤◌}
-use native.Mathlib.Omega.{arith}
-use lib.ListN.{length, get_or}
+use lib.ListN.{length}
 use Rattle.blocks.specs.Zeros.{NoZero}
-use Rattle.blocks.proofs.Spans.{span_one, span_join}
 use Rattle.blocks.proofs.zeros.find_zero.Given as goal
 
 abbrev pub invariant-loop-i : goal.invariant-loop-i

@@ -1,9 +1,7 @@
-use borrow.Author.Rules.{rules}
 use mathlib.Core.Path.{◌≡◌}
-use Prim.Native.Nat.{◌+◌, ◌-◌, ◌≤◌}
+use Prim.Native.Nat.{◌+◌}
 use native.Mathlib.Omega.{arith}
-use lib.ListN.{length, get_or}
-use Rattle.blocks.specs.Zeros.{NoZero}
+use lib.ListN.{get_or}
 use Rattle.blocks.proofs.Spans.{span_join}
 use Rattle.blocks.proofs.zeros.past_clear.Goals as goal
 

@@ -3,7 +3,6 @@ use mathlib.Core.Path.{◌≡◌}
 use native.Mathlib.Omega.{arith}
 use lib.ListN.{get_or}
 use Rattle.blocks.proofs.Spans.{span_join}
-use borrow.Author.Rules.{rules}
 use Rattle.blocks.proofs.zeros.zero_from.Goals as goal
 
 pub returns-then-near-from : goal.returns-then-near-from

@@ -3,7 +3,6 @@ use mathlib.Core.Path.{◌≡◌}
 use native.Mathlib.Omega.{arith}
 use lib.ListN.{get_or}
 use Rattle.blocks.proofs.Spans.{span_one, span_more}
-use borrow.Author.Rules.{rules}
 use Rattle.blocks.proofs.zeros.zero_of_four.Goals as goal
 
 pub returns-then-s-from-eq0-2 : goal.returns-then-s-from-eq0-2

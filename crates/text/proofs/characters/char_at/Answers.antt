@@ -1,7 +1,6 @@
 -- By the lead, as the definition's first character goes: each width has its law.
 use Rattle.text.proofs.Ranges.{bounds2, bounds3, bounds4}
 use Rattle.text.proofs.Chars.{none_at, one_at, cut_two, two_at, cut_three, three_at, cut_four, four_at, not_four}
-use borrow.Author.Rules.{rules}
 use Rattle.text.proofs.characters.char_at.Goals as goal
 
 pub returns-then-at-s : goal.returns-then-at-s

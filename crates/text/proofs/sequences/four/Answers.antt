@@ -1,5 +1,4 @@
 -- The tests in the definition's order; a byte that is missing reads as none.
-use borrow.Author.Rules.{rules}
 use mathlib.Core.Path.{refl}
 use Rattle.text.proofs.Ranges.{and_go, and_stop}
 use Rattle.text.proofs.sequences.four.Goals as goal

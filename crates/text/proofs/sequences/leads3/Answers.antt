@@ -1,5 +1,4 @@
 -- The second byte's range by the lead: E0 and ED have their own.
-use borrow.Author.Rules.{rules}
 use mathlib.Core.Path.{◌∙◌}
 use Rattle.text.proofs.Ranges.{lead3_first, lead3_surrogate, lead3_low, lead3_high, lead3_plain}
 use Rattle.text.proofs.sequences.leads3.Goals as goal

@@ -1,5 +1,4 @@
 -- The second byte's range by the lead: F0 and F4 have their own.
-use borrow.Author.Rules.{rules}
 use mathlib.Core.Path.{◌∙◌}
 use Rattle.text.proofs.Ranges.{lead4_first, lead4_last, lead4_low, lead4_high, lead4_plain}
 use Rattle.text.proofs.sequences.leads4.Goals as goal

@@ -1,7 +1,6 @@
 -- Rows of sixteen characters, then of one: each part leaves the judgement of the rest as it was.
 use mathlib.Core.Path.{◌∙◌}
 use native.Mathlib.Omega.{arith}
-use borrow.Author.Rules.{rules}
 use Rattle.text.proofs.threes.past_threes.Goals as goal
 
 pub returns : goal.returns

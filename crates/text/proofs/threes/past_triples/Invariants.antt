@@ -1,8 +1,6 @@
 -- Invariant: the whole is text exactly when what is left is; a row of three-byte characters moves the place. What is left falls.
-use borrow.Author.Rules.{rules}
-use mathlib.Core.Path.{◌≡◌, refl, ◌∙◌}
+use mathlib.Core.Path.{◌≡◌}
 use Prim.Native.Nat.{◌-◌, ◌≤◌}
-use native.Mathlib.Omega.{arith}
 use lib.ListN.{length, drop}
 use Rattle.format.specs.Utf8.{utf8}
 use Rattle.text.proofs.threes.past_triples.Given as goal

@@ -1,9 +1,8 @@
-use borrow.Author.Rules.{rules}
 use borrow.Author.Tests.{eqb-true}
 use mathlib.Core.Path.{◌≡◌, refl}
-use Prim.Native.Nat.{ℕ, ◌+◌, ◌-◌, ◌*◌, ◌≤◌, ◌<◌}
+use Prim.Native.Nat.{ℕ, ◌+◌}
 use native.Mathlib.Omega.{arith}
-use lib.ListN.{length, get_or}
+use lib.ListN.{get_or}
 use Rattle.blocks.proofs.Spans.{span_one, or_below}
 use Rattle.text.specs.Rows.{Lies}
 use Rattle.text.proofs.RowLaws.{row}
@@ -34,15 +33,14 @@ pub loop-j-smaller : goal.loop-j-smaller
 loop-j-smaller c = omega arith
 
 pub loop-j-preserved : goal.loop-j-preserved
-loop-j-preserved c =
-    (
-      omega arith,
-      c.loop-j.invariant.1,
-      c.loop-j.invariant.2,
-      λ p. let b = or_below c.loop-j.n c.outside-n.result 1 (omega (arith, p)) in let n : c.loop-j.n ≡ 0 = omega (arith, b.0)
-          in let r : c.outside-n.result ≡ 0 = omega (arith, b.1) in λ q h. span_one (λ k. Lies k (get_or c.args.s.now (c.args.i + k) 0)) 0 c.loop-j.j (λ k a l. c.loop-j.invariant.3 n k l) (c.outside-n.ensures r) q
-          (omega arith) h,
-    )
+loop-j-preserved c = (
+  omega arith,
+  c.loop-j.invariant.1,
+  c.loop-j.invariant.2,
+  λ p. let b = or_below c.loop-j.n c.outside-n.result 1 (omega (arith, p)) in let n : c.loop-j.n ≡ 0 = omega (arith, b.0)
+      in let r : c.outside-n.result ≡ 0 = omega (arith, b.1) in λ q h. span_one (λ k. Lies k (get_or c.args.s.now (c.args.i + k) 0)) 0 c.loop-j.j (λ k a l. c.loop-j.invariant.3 n k l) (c.outside-n.ensures r) q
+      (omega arith) h,
+)
 
 pub returns : goal.returns
 returns c = λ p. let n = eqb-true c.loop-j.n 0 p in (c.loop-j.invariant.2, row c.args.s.now c.args.m c.args.i c.loop-j.invariant.2 (λ q h. c.loop-j.invariant.3 n q (omega arith)))

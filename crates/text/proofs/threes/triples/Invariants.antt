@@ -1,13 +1,8 @@
 -- Invariant: where no byte is out of its range, the j bytes passed lie in theirs, by their place in the character. The bytes left fall.
-use borrow.Author.Rules.{rules}
-use borrow.Author.Tests.{eqb-true}
-use mathlib.Core.Path.{◌≡◌, refl}
+use mathlib.Core.Path.{◌≡◌}
 use Prim.Native.Nat.{ℕ, ◌+◌, ◌-◌, ◌*◌, ◌≤◌, ◌<◌}
-use native.Mathlib.Omega.{arith}
 use lib.ListN.{length, get_or}
-use Rattle.blocks.proofs.Spans.{span_one, or_below}
 use Rattle.text.specs.Rows.{Lies}
-use Rattle.text.proofs.RowLaws.{row}
 use Rattle.text.proofs.threes.triples.Given as goal
 
 abbrev pub invariant-loop-j : goal.invariant-loop-j

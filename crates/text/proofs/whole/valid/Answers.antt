@@ -1,9 +1,6 @@
-use borrow.Author.Rules.{rules}
-use mathlib.Core.Path.{◌≡◌, sym, ◌∙◌}
-use Prim.Native.Nat.{◌-◌, ◌≤◌}
+use mathlib.Core.Path.{sym, ◌∙◌}
 use native.Mathlib.Omega.{arith}
-use lib.ListN.{length, drop}
-use Rattle.format.specs.Utf8.{utf8}
+use lib.ListN.{length}
 use Rattle.text.proofs.Texts.{step_stops, text_chunk, ends_well, moves_on}
 use Rattle.text.proofs.whole.valid.Goals as goal
 
@@ -19,12 +16,11 @@ loop-at-smaller c =
     omega arith
 
 pub loop-at-preserved : goal.loop-at-preserved
-loop-at-preserved c =
-    (
-      c.walk-next.ensures.inside,
-      c.loop-at.invariant.1 ∙ text_chunk c.args.s.now c.loop-at.at c.low_blocks-low.result c.low_blocks-low.ensures.0 c.low_blocks-low.ensures.1 c.low_blocks-low.ensures.2 ∙
-          c.past_threes-from.ensures.2 ∙ c.walk-next.ensures.same,
-    )
+loop-at-preserved c = (
+  c.walk-next.ensures.inside,
+  c.loop-at.invariant.1 ∙ text_chunk c.args.s.now c.loop-at.at c.low_blocks-low.result c.low_blocks-low.ensures.0 c.low_blocks-low.ensures.1 c.low_blocks-low.ensures.2 ∙
+      c.past_threes-from.ensures.2 ∙ c.walk-next.ensures.same,
+)
 
 pub returns : goal.returns
 returns c = sym (c.loop-at.invariant.1 ∙ ends_well c.args.s.now c.loop-at.at c.loop-at-test.false)

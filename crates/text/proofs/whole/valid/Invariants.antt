@@ -1,11 +1,8 @@
 -- Invariant: the whole is text exactly when what is left is. What is left falls.
-use borrow.Author.Rules.{rules}
-use mathlib.Core.Path.{◌≡◌, sym, ◌∙◌}
+use mathlib.Core.Path.{◌≡◌}
 use Prim.Native.Nat.{◌-◌, ◌≤◌}
-use native.Mathlib.Omega.{arith}
 use lib.ListN.{length, drop}
 use Rattle.format.specs.Utf8.{utf8}
-use Rattle.text.proofs.Texts.{step_stops, text_chunk, ends_well, moves_on}
 use Rattle.text.proofs.whole.valid.Given as goal
 
 abbrev pub invariant-loop-at : goal.invariant-loop-at

@@ -1,9 +1,5 @@
-use borrow.Author.Rules.{rules}
-use mathlib.Core.Path.{◌≡◌, refl, sym, ◌∙◌}
-use Prim.Native.Nat.{◌-◌, ◌≤◌}
+use mathlib.Core.Path.{refl, sym, ◌∙◌}
 use native.Mathlib.Omega.{arith}
-use lib.ListN.{length, drop}
-use Rattle.format.specs.Utf8.{utf8}
 use Rattle.text.proofs.Texts.{step_fits, step_on_lem}
 use Rattle.text.proofs.whole.walk.Goals as goal
 
@@ -20,13 +16,12 @@ pub loop-at-smaller : goal.loop-at-smaller
 loop-at-smaller c = omega (arith, step_fits c.args.s.now c.loop-at.at c.char_width-w.result c.char_width-w.ensures (omega arith))
 
 pub loop-at-preserved : goal.loop-at-preserved
-loop-at-preserved c =
-    (
-      omega arith,
-      step_fits c.args.s.now c.loop-at.at c.char_width-w.result c.char_width-w.ensures (omega arith),
-      c.loop-at.invariant.2 ∙ step_on_lem c.args.s.now c.loop-at.at c.char_width-w.result
-          c.char_width-w.ensures c.if-w-eq0.false,
-    )
+loop-at-preserved c = (
+  omega arith,
+  step_fits c.args.s.now c.loop-at.at c.char_width-w.result c.char_width-w.ensures (omega arith),
+  c.loop-at.invariant.2 ∙ step_on_lem c.args.s.now c.loop-at.at c.char_width-w.result
+      c.char_width-w.ensures c.if-w-eq0.false,
+)
 
 pub returns : goal.returns
 returns c = record { after = c.loop-at.invariant.0; inside = c.loop-at.invariant.1; same = c.loop-at.invariant.2; stuck = λ h. absurd (omega arith) }

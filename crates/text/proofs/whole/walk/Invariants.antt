@@ -1,11 +1,8 @@
 -- Invariant: the rest from the start is text exactly when what is left is; a character moves the place. What is left falls.
-use borrow.Author.Rules.{rules}
-use mathlib.Core.Path.{◌≡◌, refl, sym, ◌∙◌}
+use mathlib.Core.Path.{◌≡◌}
 use Prim.Native.Nat.{◌-◌, ◌≤◌}
-use native.Mathlib.Omega.{arith}
 use lib.ListN.{length, drop}
 use Rattle.format.specs.Utf8.{utf8}
-use Rattle.text.proofs.Texts.{step_fits, step_on_lem}
 use Rattle.text.proofs.whole.walk.Given as goal
 
 abbrev pub invariant-loop-at : goal.invariant-loop-at
