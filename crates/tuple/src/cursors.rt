@@ -7,122 +7,98 @@ use crate::answers::Number;
 use crate::steps;
 use crate::steps::{CursorStep, PartStep};
 
-#[unsafe(no_mangle)]
-pub extern "C" fn tuple_take_null(bytes: &[u8], at: usize, depth: usize) -> CursorStep
+pub fn tuple_take_null(bytes: &[u8], at: usize, depth: usize) -> CursorStep
     ensures { result ≡ moved_step at depth (take_null bytes.now (cursor_at at depth)) }
 {
     let c = steps::cursor_at(at, depth);
     steps::of_moved(cursor::take_null(bytes, c), at, depth)
 }
 
-#[unsafe(no_mangle)]
-pub extern "C" fn tuple_take_i64(bytes: &[u8], at: usize, depth: usize) -> CursorStep
+pub fn tuple_take_i64(bytes: &[u8], at: usize, depth: usize) -> CursorStep
     ensures { result ≡ step_of at depth (take_i64 bytes.now (cursor_at at depth)) }
 {
     let c = steps::cursor_at(at, depth);
     steps::of_taken(cursor::take_i64(bytes, c), at, depth)
 }
 
-#[unsafe(no_mangle)]
-pub extern "C" fn tuple_take_u64(bytes: &[u8], at: usize, depth: usize) -> CursorStep
+pub fn tuple_take_u64(bytes: &[u8], at: usize, depth: usize) -> CursorStep
     ensures { result ≡ step_of at depth (take_u64 bytes.now (cursor_at at depth)) }
 {
     let c = steps::cursor_at(at, depth);
     steps::of_taken(cursor::take_u64(bytes, c), at, depth)
 }
 
-#[unsafe(no_mangle)]
-pub extern "C" fn tuple_take_fact_id(bytes: &[u8], at: usize, depth: usize) -> CursorStep
+pub fn tuple_take_fact_id(bytes: &[u8], at: usize, depth: usize) -> CursorStep
     ensures { result ≡ step_of at depth (take_fact_id bytes.now (cursor_at at depth)) }
 {
     let c = steps::cursor_at(at, depth);
     steps::of_taken(cursor::take_fact_id(bytes, c), at, depth)
 }
 
-#[unsafe(no_mangle)]
-pub extern "C" fn tuple_take_str(
-    bytes: &[u8],
-    at: usize,
-    depth: usize,
-    scratch: &mut [u8],
-) -> PartStep
+pub fn tuple_take_str(bytes: &[u8], at: usize, depth: usize, scratch: &mut [u8]) -> PartStep
     ensures { PartTaken at depth (take_str bytes.now (cursor_at at depth) scratch.old) result scratch.new }
 {
     let c = steps::cursor_at(at, depth);
     steps::of_part(cursor::take_str(bytes, c, scratch), at, depth)
 }
 
-#[unsafe(no_mangle)]
-pub extern "C" fn tuple_take_bytes(
-    bytes: &[u8],
-    at: usize,
-    depth: usize,
-    scratch: &mut [u8],
-) -> PartStep
+pub fn tuple_take_bytes(bytes: &[u8], at: usize, depth: usize, scratch: &mut [u8]) -> PartStep
     ensures { PartTaken at depth (take_bytes bytes.now (cursor_at at depth) scratch.old) result scratch.new }
 {
     let c = steps::cursor_at(at, depth);
     steps::of_part(cursor::take_bytes(bytes, c, scratch), at, depth)
 }
 
-#[unsafe(no_mangle)]
-pub extern "C" fn tuple_open_record(bytes: &[u8], at: usize, depth: usize) -> CursorStep
+pub fn tuple_open_record(bytes: &[u8], at: usize, depth: usize) -> CursorStep
     ensures { result ≡ moved_step at depth (open_record bytes.now (cursor_at at depth)) }
 {
     let c = steps::cursor_at(at, depth);
     steps::of_moved(cursor::open_record(bytes, c), at, depth)
 }
 
-#[unsafe(no_mangle)]
-pub extern "C" fn tuple_open_union(bytes: &[u8], at: usize, depth: usize) -> CursorStep
+pub fn tuple_open_union(bytes: &[u8], at: usize, depth: usize) -> CursorStep
     ensures { result ≡ step_of at depth (open_union bytes.now (cursor_at at depth)) }
 {
     let c = steps::cursor_at(at, depth);
     steps::of_taken(cursor::open_union(bytes, c), at, depth)
 }
 
-#[unsafe(no_mangle)]
-pub extern "C" fn tuple_close(bytes: &[u8], at: usize, depth: usize) -> CursorStep
+pub fn tuple_close(bytes: &[u8], at: usize, depth: usize) -> CursorStep
     ensures { result ≡ moved_step at depth (close bytes.now (cursor_at at depth)) }
 {
     let c = steps::cursor_at(at, depth);
     steps::of_moved(cursor::close(bytes, c), at, depth)
 }
 
-#[unsafe(no_mangle)]
-pub extern "C" fn tuple_is_record_end(bytes: &[u8], at: usize, depth: usize) -> Number
+pub fn tuple_is_record_end(bytes: &[u8], at: usize, depth: usize) -> Number
     ensures { result ≡ end_number (is_record_end bytes.now (cursor_at at depth)) }
 {
     let c = steps::cursor_at(at, depth);
     steps::of_end(cursor::is_record_end(bytes, c))
 }
 
-#[unsafe(no_mangle)]
-pub extern "C" fn tuple_put_null(out: &mut [u8], at: usize, depth: usize) -> CursorStep
+pub fn tuple_put_null(out: &mut [u8], at: usize, depth: usize) -> CursorStep
     ensures { StepWritten at depth (put_null out.old (cursor_at at depth)) result out.new }
 {
     let c = steps::cursor_at(at, depth);
     steps::of_wrote(cursor::put_null(out, c), at, depth)
 }
 
-#[unsafe(no_mangle)]
-pub extern "C" fn tuple_put_record(out: &mut [u8], at: usize, depth: usize) -> CursorStep
+pub fn tuple_put_record(out: &mut [u8], at: usize, depth: usize) -> CursorStep
     ensures { StepWritten at depth (put_record out.old (cursor_at at depth)) result out.new }
 {
     let c = steps::cursor_at(at, depth);
     steps::of_wrote(cursor::put_record(out, c), at, depth)
 }
 
-#[unsafe(no_mangle)]
-pub extern "C" fn tuple_put_end(out: &mut [u8], at: usize, depth: usize) -> CursorStep
+pub fn tuple_put_end(out: &mut [u8], at: usize, depth: usize) -> CursorStep
     ensures { StepWritten at depth (put_end out.old (cursor_at at depth)) result out.new }
 {
     let c = steps::cursor_at(at, depth);
     steps::of_wrote(cursor::put_end(out, c), at, depth)
 }
 
-#[unsafe(no_mangle)]
-pub extern "C" fn tuple_put_union(out: &mut [u8], at: usize, depth: usize, disc: u32) -> CursorStep
+pub fn tuple_put_union(out: &mut [u8], at: usize, depth: usize, disc: u32) -> CursorStep
     ensures { StepWritten at depth (put_union out.old (cursor_at at depth) disc) result out.new }
 {
     let c = steps::cursor_at(at, depth);

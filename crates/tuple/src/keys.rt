@@ -7,48 +7,32 @@ ghost use Rattle.tuple.specs.Numbers.{length_of, order_of, Writes, Bounds};
 use crate::answers;
 use crate::answers::{Ends, Length, Order};
 
-#[unsafe(no_mangle)]
-pub extern "C" fn tuple_skip(bytes: &[u8], start: usize, require_escape_null: bool) -> Length
+pub fn tuple_skip(bytes: &[u8], start: usize, require_escape_null: bool) -> Length
     ensures { result ≡ length_of (skip_call bytes.now start require_escape_null) }
 {
     answers::of_length(skip::skip(bytes, start, require_escape_null))
 }
 
-#[unsafe(no_mangle)]
-pub extern "C" fn tuple_compare(
-    words_a: &[u64],
-    pool_a: &[u8],
-    words_b: &[u64],
-    pool_b: &[u8],
-) -> Order
+pub fn tuple_compare(words_a: &[u64], pool_a: &[u8], words_b: &[u64], pool_b: &[u8]) -> Order
     ensures { result ≡ order_of (compare_call words_a.now pool_a.now words_b.now pool_b.now) }
 {
     answers::of_compared(order::compare(words_a, pool_a, words_b, pool_b))
 }
 
 // What an accepted call leaves is the least end above the prefix: theorem tight_call, which has it from this contract and from theorem strinc_tight of format.
-#[unsafe(no_mangle)]
-pub extern "C" fn tuple_strinc(prefix: &[u8], out: &mut [u8]) -> Length
+pub fn tuple_strinc(prefix: &[u8], out: &mut [u8]) -> Length
     ensures { Writes (strinc_call prefix.now out.old) result out.new }
 {
     answers::of_length(ends::strinc(prefix, out))
 }
 
-#[unsafe(no_mangle)]
-pub extern "C" fn tuple_above_field(key: &[u8], out: &mut [u8]) -> Length
+pub fn tuple_above_field(key: &[u8], out: &mut [u8]) -> Length
     ensures { Writes (above_field_call key.now out.old) result out.new }
 {
     answers::of_length(ends::above_field(key, out))
 }
 
-#[unsafe(no_mangle)]
-pub extern "C" fn tuple_bounds(
-    ty: &[u32],
-    key: &[u8],
-    k: usize,
-    lower: &mut [u8],
-    upper: &mut [u8],
-) -> Ends
+pub fn tuple_bounds(ty: &[u32], key: &[u8], k: usize, lower: &mut [u8], upper: &mut [u8]) -> Ends
     ensures { Bounds (bounds_call ty.now key.now k lower.old upper.old) result lower.new upper.new }
 {
     answers::of_bounded(key::bounds(ty, key, k, lower, upper))
@@ -56,8 +40,7 @@ pub extern "C" fn tuple_bounds(
 
 // Between the ends of an accepted call lie exactly the keys of the type whose first k fields are equal and whose next lies in the span: theorem exact_call,
 // which has it from this contract and from theorem spans of format.
-#[unsafe(no_mangle)]
-pub extern "C" fn tuple_span(
+pub fn tuple_span(
     ty: &[u32],
     words: &[u64],
     pool: &[u8],
@@ -83,8 +66,7 @@ pub extern "C" fn tuple_span(
     ))
 }
 
-#[unsafe(no_mangle)]
-pub extern "C" fn tuple_replace(
+pub fn tuple_replace(
     ty: &[u32],
     buffer: &mut [u8],
     used: usize,

@@ -1,4 +1,4 @@
-// The boundary to C: one exported function for each call of the library, its answer a struct of numbers by value. include/tuple.h declares them.
+// The calls of the boundary to C: one function for each call of the library, its answer a struct of numbers by value. The crate tuple_c exports them.
 #![tactic(auto)]
 
 pub mod answers;

@@ -8,15 +8,13 @@ use crate::answers::Length;
 use crate::steps;
 use crate::steps::CharStep;
 
-#[unsafe(no_mangle)]
-pub extern "C" fn tuple_str_chars(bytes: &[u8]) -> Length
+pub fn tuple_str_chars(bytes: &[u8]) -> Length
     ensures { result ≡ opened_length (opened bytes.now) }
 {
     steps::of_opening(chars::open_at(bytes))
 }
 
-#[unsafe(no_mangle)]
-pub extern "C" fn tuple_chars_next(bytes: &[u8], at: usize, done: bool) -> CharStep
+pub fn tuple_chars_next(bytes: &[u8], at: usize, done: bool) -> CharStep
     ensures { result ≡ char_of (step_at bytes.now at done) }
 {
     let t = chars::step_at(bytes, at, done);

@@ -1,5 +1,4 @@
 -- Invariant: the end is the slice's length, so each place read lies within it. The places left fall.
-use borrow.Author.Rules.{rules}
 use mathlib.Core.Path.{◌≡◌}
 use Prim.Native.Nat.{◌-◌}
 use lib.ListN.{length}

@@ -1,5 +1,5 @@
 -- The place stays from `at` on, and what is left of the bytes falls.
-use Rattle.std.proofs.Common.{◌-◌, ◌≤◌, arith, rules}
+use Rattle.std.proofs.Common.{◌-◌, ◌≤◌}
 use Rattle.lines.proofs.elements.is_bytes.Given as goal
 
 abbrev pub invariant-loop-i : goal.invariant-loop-i

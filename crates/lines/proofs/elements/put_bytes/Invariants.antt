@@ -1,5 +1,5 @@
 -- The place stays within the buffer, which keeps its length; what is left of it falls.
-use Rattle.std.proofs.Common.{◌≡◌, ◌-◌, ◌≤◌, length, arith, length-set, length-take, rules}
+use Rattle.std.proofs.Common.{◌≡◌, ◌-◌, ◌≤◌, length}
 use Rattle.lines.proofs.elements.put_bytes.Given as goal
 
 abbrev pub invariant-loop-i : goal.invariant-loop-i

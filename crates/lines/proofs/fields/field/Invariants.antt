@@ -1,5 +1,5 @@
 -- The start of a field stays within the line, and the fields to pass fall.
-use Rattle.std.proofs.Common.{◌≤◌, length, rules}
+use Rattle.std.proofs.Common.{◌≤◌, length}
 use Rattle.lines.proofs.fields.field.Given as goal
 
 abbrev pub invariant-loop-left : goal.invariant-loop-left

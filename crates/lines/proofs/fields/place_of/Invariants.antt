@@ -1,5 +1,5 @@
 -- The place stays within the list, and what is left of it falls.
-use Rattle.std.proofs.Common.{◌-◌, ◌≤◌, length, rules}
+use Rattle.std.proofs.Common.{◌-◌, ◌≤◌, length}
 use Rattle.lines.proofs.fields.place_of.Given as goal
 
 abbrev pub invariant-loop-i : goal.invariant-loop-i

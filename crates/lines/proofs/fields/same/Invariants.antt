@@ -1,5 +1,5 @@
 -- Both are of one length, and the place stays within it; what is left falls.
-use Rattle.std.proofs.Common.{◌-◌, ◌≤◌, length, rules}
+use Rattle.std.proofs.Common.{◌-◌, ◌≤◌, length}
 use Rattle.lines.proofs.fields.same.Given as goal
 
 abbrev pub invariant-loop-i : goal.invariant-loop-i

@@ -1,5 +1,5 @@
 -- The place stays within the fields asked for, and what is left of them falls.
-use Rattle.std.proofs.Common.{◌-◌, ◌≤◌, length, rules}
+use Rattle.std.proofs.Common.{◌-◌, ◌≤◌, length}
 use Rattle.lines.proofs.numbers.are_decimals.Given as goal
 
 abbrev pub invariant-loop-i : goal.invariant-loop-i

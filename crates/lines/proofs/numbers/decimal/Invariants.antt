@@ -1,5 +1,5 @@
 -- The number stays below 2^64, since it is tested before it grows; what is left of the text falls.
-use Rattle.std.proofs.Common.{◌-◌, ◌≤◌, length, rules}
+use Rattle.std.proofs.Common.{◌-◌, ◌≤◌, length}
 use Rattle.lines.proofs.numbers.decimal.Given as goal
 
 abbrev pub invariant-loop-i : goal.invariant-loop-i

@@ -1,11 +1,6 @@
 -- The union's alternatives are passed one by one, and counted. The invariant (`Left`): of whatever union stands at `at`, those that are left stand at the place and
 -- decide the choice, and those looked at have another tag; how many are left falls. Each way out of the loop is a law of `AltWalk`.
-use borrow.Author.Rules.{rules}
-use borrow.Author.Tests.{ltb-true, ltb-false}
-use Prim.Native.Nat.{◌+◌}
-use native.Mathlib.Omega.{arith}
-use mathlib.Core.Logic.{⊎_elim}
-use Rattle.sheet.proofs.AltWalk.{Left, no_union, all_left, none_left, no_room, picked, no_end, go_on}
+use Rattle.sheet.proofs.AltWalk.{Left}
 use Rattle.sheet.proofs.alternatives.alternative.Given as goal
 
 abbrev pub invariant-loop-left : goal.invariant-loop-left

@@ -1,6 +1,5 @@
 -- The end that the walk finds is the end of whatever alternatives stand there.
 use Rattle.sheet.proofs.EndLaws.{alts_end_is}
-use borrow.Author.Rules.{rules}
 use Rattle.sheet.proofs.alternatives.skip_alternatives.Goals as goal
 
 pub returns : goal.returns

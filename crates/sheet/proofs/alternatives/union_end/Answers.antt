@@ -1,5 +1,4 @@
 -- Where the end is not asked for, nothing is promised of it.
-use borrow.Author.Rules.{rules}
 use Prim.Native.Nat.{ℕ}
 use mathlib.Core.Path.{◌≡◌}
 use native.Mathlib.Omega.{arith}

@@ -1,11 +1,8 @@
-use borrow.Author.Rules.{rules}
 use native.Mathlib.Omega.{arith}
 use Rattle.sheet.proofs.TypeWalk.{none_left, zero_kind, scalar, short, unknown, reference, seven_twice, optional_zero, optional_scalar, optional_short, optional_reference, optional_end, too_deep, record_end, union_end_lem}
-use Rattle.sheet.proofs.TypeWalk.{Run, run_start_lem, fields_done, fields_fail, fields_go, alts_done, alts_fail, alts_go, alts_out}
-use Prim.Native.Nat.{ℕ, ◌+◌, ◌-◌, ◌*◌, ◌≤◌, ◌<◌}
+use Rattle.sheet.proofs.TypeWalk.{run_start_lem, fields_done, fields_fail, fields_go, alts_done, alts_fail, alts_go, alts_out}
+use Prim.Native.Nat.{ℕ, ◌≤◌, ◌<◌}
 use mathlib.Core.Path.{◌≡◌}
-use lib.ListN.{length}
-use Rattle.format.specs.TypeSheet.{types, alts, type_at}
 use Rattle.sheet.proofs.types.+type_ends.Goals as goal
 
 past-four : (k : ℕ) → 4 ≤ k → (k ≡ 4 → ⊥) → 4 < k

@@ -1,11 +1,7 @@
 -- Each way out of a walk is a law of `TypeWalk`. The loops' invariant (`Run`): all end where those that are left do; how many are left falls.
 -- The measure is thrice the words from the place on, and what tells the members of a turn apart: a group's types stand behind it, and so does that behind a word 7.
-use borrow.Author.Rules.{rules}
-use native.Mathlib.Omega.{arith}
-use Rattle.sheet.proofs.TypeWalk.{none_left, zero_kind, scalar, short, unknown, reference, seven_twice, optional_zero, optional_scalar, optional_short, optional_reference, optional_end, too_deep, record_end, union_end_lem}
-use Rattle.sheet.proofs.TypeWalk.{Run, run_start_lem, fields_done, fields_fail, fields_go, alts_done, alts_fail, alts_go, alts_out}
-use Prim.Native.Nat.{ℕ, ◌+◌, ◌-◌, ◌*◌, ◌≤◌, ◌<◌}
-use mathlib.Core.Path.{◌≡◌}
+use Rattle.sheet.proofs.TypeWalk.{Run}
+use Prim.Native.Nat.{◌+◌, ◌-◌, ◌*◌}
 use lib.ListN.{length}
 use Rattle.format.specs.TypeSheet.{types, alts, type_at}
 use Rattle.sheet.proofs.types.+type_ends.Given as goal

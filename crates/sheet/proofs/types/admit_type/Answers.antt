@@ -1,6 +1,5 @@
 -- The sheet is admitted exactly where the type at 0 ends at the sheet's end: the end that the walk finds decides, after the limit on words.
 use Rattle.sheet.proofs.AdmitType.{too_long, no_type_lem, is_type}
-use borrow.Author.Rules.{rules}
 use Rattle.sheet.proofs.types.admit_type.Goals as goal
 
 pub returns-then-ty-gt-MAX_TYPE_WORDS : goal.returns-then-ty-gt-MAX_TYPE_WORDS

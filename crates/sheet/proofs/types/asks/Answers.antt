@@ -1,5 +1,4 @@
 -- The one type that is left is asked for where the row is.
-use borrow.Author.Rules.{rules}
 use native.Mathlib.Omega.{arith}
 use Rattle.sheet.proofs.types.asks.Goals as goal
 

@@ -1,5 +1,4 @@
 -- The end that the walk finds is the end of whatever type stands there; where it is not asked for, nothing is promised of it.
-use borrow.Author.Rules.{rules}
 use Prim.Native.Nat.{ℕ}
 use mathlib.Core.Path.{◌≡◌}
 use native.Mathlib.Omega.{arith}

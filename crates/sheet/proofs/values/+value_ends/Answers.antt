@@ -1,9 +1,7 @@
-use borrow.Author.Rules.{rules}
 use native.Mathlib.Omega.{arith}
-use Rattle.sheet.proofs.ValueWalk.{none_left, null, short, integer, reference, is_run, too_deep, unknown, record_end, big_tag, payload, Fields, fields_start, fields_done, fields_fail, fields_go}
-use mathlib.Core.Logic.{⊎_elim}
-use Prim.Native.Nat.{ℕ, ◌+◌, ◌*◌, ◌<◌}
+use Rattle.sheet.proofs.ValueWalk.{none_left, null, short, integer, reference, is_run, too_deep, unknown, record_end, big_tag, payload, fields_start, fields_done, fields_fail, fields_go}
 use Rattle.sheet.proofs.values.+value_ends.Goals as goal
+use Rattle.sheet.proofs.values.+value_ends.Goals.{value_end-then-kind-eq-VALUE_FACT-via-then-kind-eq-VALUE_FACT, value_end-then-kind-eq-VALUE_FACT-via-else-kind-eq-VALUE_FACT+then-kind-eq-VALUE_INT}
 
 pub value_end-returns-then-at-words : goal.value_end-returns-then-at-words
 value_end-returns-then-at-words t c = search none_left
@@ -15,7 +13,7 @@ pub value_end-returns-then-words-at-lt2 : goal.value_end-returns-then-words-at-l
 value_end-returns-then-words-at-lt2 t c = search short
 
 pub value_end-returns-then-kind-eq-VALUE_FACT : goal.value_end-returns-then-kind-eq-VALUE_FACT
-value_end-returns-then-kind-eq-VALUE_FACT t c = ⊎_elim (λ w. search reference) (λ w. search (integer, eqb-true)) c.if-kind-eq-VALUE_FACT.branch
+value_end-returns-then-kind-eq-VALUE_FACT t c = elim c.then-kind-eq-VALUE_FACT.branch [ value_end-then-kind-eq-VALUE_FACT-via-then-kind-eq-VALUE_FACT w ↦ search reference | value_end-then-kind-eq-VALUE_FACT-via-else-kind-eq-VALUE_FACT+then-kind-eq-VALUE_INT w ↦ search integer ]
 
 pub value_end-run_end-requires : goal.value_end-run_end-requires
 value_end-run_end-requires t c = (omega arith, search is_run, omega arith, omega arith)

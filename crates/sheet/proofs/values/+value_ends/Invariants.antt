@@ -1,10 +1,7 @@
 -- Each way out of a walk is a law of `ValueWalk`. The loop's invariant (`Fields`): all end where those that are left do; how many are left falls.
 -- Calls nest by groups: the measure is twice the groups that may still open, and one for a run.
-use borrow.Author.Rules.{rules}
-use native.Mathlib.Omega.{arith}
-use Rattle.sheet.proofs.ValueWalk.{none_left, null, short, integer, reference, is_run, too_deep, unknown, record_end, big_tag, payload, Fields, fields_start, fields_done, fields_fail, fields_go}
-use mathlib.Core.Logic.{⊎_elim}
-use Prim.Native.Nat.{ℕ, ◌+◌, ◌*◌, ◌<◌}
+use Rattle.sheet.proofs.ValueWalk.{Fields}
+use Prim.Native.Nat.{◌+◌, ◌*◌}
 use Rattle.sheet.proofs.values.+value_ends.Given as goal
 
 abbrev pub decreases-value_end : goal.decreases-value_end

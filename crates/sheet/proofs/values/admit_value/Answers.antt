@@ -1,6 +1,5 @@
 -- The sheet is admitted exactly where the value at 0 ends at the end of words and pool: the ends that the walk finds decide, after both limits.
 use Rattle.sheet.proofs.AdmitValue.{too_long, too_large, no_value, more_words, is_value}
-use borrow.Author.Rules.{rules}
 use Rattle.sheet.proofs.values.admit_value.Goals as goal
 
 pub returns-then-words-gt-MAX_VALUE_WORDS : goal.returns-then-words-gt-MAX_VALUE_WORDS

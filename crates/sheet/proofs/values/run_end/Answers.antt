@@ -1,6 +1,5 @@
 -- Each way out is a law of `ValueWalk` about the Str or Bytes that its two words say: too long for the pool, raw, text, or no text.
 use Rattle.sheet.proofs.ValueWalk.{over, raw, text, no_text}
-use borrow.Author.Rules.{rules}
 use Rattle.sheet.proofs.values.run_end.Goals as goal
 
 pub returns-then-len-rest : goal.returns-then-len-rest
