@@ -5,7 +5,7 @@ use borrow.Author.Rules.{rules}
 use Rattle.read.proofs.leaves.walk_ref.Goals as goal
 
 pub overflow_add-i : goal.overflow_add-i
-overflow_add-i c = omega (arith, laws.ref_within _ c.get_fact_id.ensures c.raw-1.given.1)
+overflow_add-i c = omega (arith, laws.ref_within _ c.get_fact_id.ensures c.in-Value.is)
 
 pub returns-in-Refused : goal.returns-in-Refused
 returns-in-Refused c = search laws.ref_bad
