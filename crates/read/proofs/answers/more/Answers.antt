@@ -2,7 +2,6 @@
 use native.Mathlib.Omega.{arith}
 use mathlib.Core.Path.{refl}
 use Rattle.read.proofs.AnswerLaws as laws
-use borrow.Author.Rules.{rules}
 use Rattle.read.proofs.answers.more.Goals as goal
 
 pub overflow_add-b : goal.overflow_add-b

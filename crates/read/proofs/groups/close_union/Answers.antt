@@ -2,7 +2,6 @@
 use native.Mathlib.Omega.{arith}
 use mathlib.Core.Path.{refl}
 use Rattle.read.proofs.ValueLaws as laws
-use borrow.Author.Rules.{rules}
 use Rattle.read.proofs.groups.close_union.Goals as goal
 
 pub slice_bounds-close-count : goal.slice_bounds-close-count

@@ -1,7 +1,6 @@
 -- What `get_i64` reads is what the definition reads; it lies within the bytes left.
 use native.Mathlib.Omega.{arith}
 use Rattle.read.proofs.LeafLaws as laws
-use borrow.Author.Rules.{rules}
 use Rattle.read.proofs.leaves.walk_int.Goals as goal
 
 pub overflow_add-i : goal.overflow_add-i

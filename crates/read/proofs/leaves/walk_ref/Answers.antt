@@ -1,7 +1,6 @@
 -- A reference under its predicate is one that is read without it, and then judged.
 use native.Mathlib.Omega.{arith}
 use Rattle.read.proofs.LeafLaws as laws
-use borrow.Author.Rules.{rules}
 use Rattle.read.proofs.leaves.walk_ref.Goals as goal
 
 pub overflow_add-i : goal.overflow_add-i

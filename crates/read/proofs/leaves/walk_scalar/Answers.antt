@@ -2,7 +2,6 @@
 use Rattle.read.proofs.ValueLaws as values
 use native.Mathlib.Omega.{arith}
 use Rattle.read.proofs.LeafLaws as laws
-use borrow.Author.Rules.{rules}
 use Rattle.read.proofs.leaves.walk_scalar.Goals as goal
 
 pub bounds-ty-at : goal.bounds-ty-at

@@ -1,7 +1,6 @@
 -- What `marked_run` found is the payload that the definition judges; the part judged is that run.
 use native.Mathlib.Omega.{arith}
 use Rattle.read.proofs.LeafLaws as laws
-use borrow.Author.Rules.{rules}
 use Rattle.read.proofs.leaves.walk_str.Goals as goal
 
 pub slice_bounds-payload_is_text-count : goal.slice_bounds-payload_is_text-count
