@@ -16,3 +16,6 @@ overflow_add-result-4 c = let pool = pool_run c.args.kind c.args.x c.if-kind-eq-
 
 pub returns : goal.returns
 returns c = search leaf_run
+
+pub slice_bounds-escaped_len-end : goal.slice_bounds-escaped_len-end
+slice_bounds-escaped_len-end c = let pool = pool_run c.args.kind c.args.x c.if-kind-eq-KIND_INT.false c.requires.4 in omega arith

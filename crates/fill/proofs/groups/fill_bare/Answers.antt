@@ -5,7 +5,7 @@ use Rattle.fill.proofs.TopLaws as laws
 use Rattle.fill.proofs.groups.fill_bare.Goals as goal
 
 pub returns-then-words-ge2 : goal.returns-then-words-ge2
-returns-then-words-ge2 c = laws.bare_filled (all_bytes c.args.bytes.now (λ i. omega (arith, c.shared_slice_known-1.given i))) c.fill_fields-r.ensures c.put_pair.ensures
+returns-then-words-ge2 c = laws.bare_filled (all_bytes c.args.bytes.now (λ i. omega (arith, c.type_inv.bytes i))) c.fill_fields-r.ensures c.put_pair.ensures
 
 pub returns-else-words-ge2 : goal.returns-else-words-ge2
 returns-else-words-ge2 c = laws.bare_short (omega (arith, c.if-words-ge2.false))

@@ -5,4 +5,4 @@ use Rattle.fill.proofs.TopLaws as laws
 use Rattle.fill.proofs.groups.fill_value.Goals as goal
 
 pub returns : goal.returns
-returns c = laws.value_filled (all_bytes c.args.bytes.now (λ i. omega (arith, c.shared_slice_known-1.given i))) c.fill_fields.ensures
+returns c = laws.value_filled (all_bytes c.args.bytes.now (λ i. omega (arith, c.type_inv.bytes i))) c.fill_fields.ensures

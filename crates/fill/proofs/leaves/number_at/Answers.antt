@@ -10,4 +10,4 @@ pub returns-then-k-eq0 : goal.returns-then-k-eq0
 returns-then-k-eq0 c = laws.number_none c.args.bytes.now c.args.j c.args.k c.if-k-eq0.true
 
 pub returns : goal.returns
-returns c = laws.number_shifted c.args.bytes.now c.args.j c.args.k (λ k. omega (arith, c.shared_slice_known-1.given k)) c.requires.0 (omega (arith, c.if-bytes-j-lt8.false)) c.read_number-2.ensures.0
+returns c = laws.number_shifted c.args.bytes.now c.args.j c.args.k (λ k. omega (arith, c.type_inv.bytes k)) c.requires.0 (omega (arith, c.if-bytes-j-lt8.false)) c.read_number-2.ensures.0
