@@ -104,7 +104,7 @@ TUPLE_ASSERT(sizeof(tuple_char) == 40 && offsetof(tuple_char, given) == 16 && of
 TUPLE_ASSERT(sizeof(size_t) == 8 && sizeof(bool) == 1, "the library is for x86-64");
 
 /* ---- encoding: a value under a type, at the output buffer's beginning. length: the bytes written; zeros: how many zeros were escaped, which is
- * the number of zero bytes in the pool (theorem zeros-escaped, crates/format/proofs/ZeroLaws.antt).
+ * the number of zero bytes in the pool (theorem zeros_escaped, crates/format/proofs/ZeroLaws.antt).
  * Refusals in order: 15, 16, the value's (6, 8, 9, 10, 11, 12), for a key 7, then 17. */
 
 /* a top record is a group */
@@ -127,7 +127,7 @@ tuple_sheet tuple_check_key(const uint32_t *type, size_t type_len, const uint8_t
 tuple_length tuple_skip(const uint8_t *bytes, size_t bytes_len, size_t start, bool require_escape_null);
 /* how two values compare: where they are of one type, as their keys do; refusal 16 */
 tuple_order tuple_compare(const uint64_t *words_a, size_t words_a_len, const uint8_t *pool_a, size_t pool_a_len, const uint64_t *words_b, size_t words_b_len, const uint8_t *pool_b, size_t pool_b_len);
-/* of all byte strings above every byte string that begins with the prefix, the least (theorem strinc-tight, crates/format/proofs/Ranges.antt);
+/* of all byte strings above every byte string that begins with the prefix, the least (theorem strinc_tight, crates/format/proofs/Ranges.antt);
  * refusals 19 (there is none), 17 */
 tuple_length tuple_strinc(const uint8_t *prefix, size_t prefix_len, uint8_t *out, size_t out_len);
 /* the key through a field with FF behind: above every key with the same fields up to there, and not above any key whose fields up to there are greater;
@@ -137,7 +137,7 @@ tuple_length tuple_above_field(const uint8_t *key, size_t key_len, uint8_t *out,
 tuple_ends tuple_bounds(const uint32_t *type, size_t type_len, const uint8_t *key, size_t key_len, size_t k, uint8_t *lower, size_t lower_len, uint8_t *upper, size_t upper_len);
 /* the two ends of a span on the next field. words and pool: the first k fields as one Record, k being its count. A key of the record type lies at or above the
  * lower end and below the upper one exactly when its first k fields are these and the next lies from the lowest to the highest, both ends included (theorem spans,
- * crates/format/proofs/Ranges.antt; of this call theorem exact-call, crates/tuple/proofs/RangeLaws.antt). A lowest above the highest is accepted: no key lies between.
+ * crates/format/proofs/Ranges.antt; of this call theorem exact_call, crates/tuple/proofs/RangeLaws.antt). A lowest above the highest is accepted: no key lies between.
  * The lower end is the k fields and the lowest, the upper the k fields, the highest and FF; either may be longer than a key, so there is no 7.
  * Refusals in order: 15; 16 of the three value sheets in turn, for the first also where it is no Record; 18 (no field behind the first k, or not a record type); the
  * values' (6, 8, 9, 10, 11, 12): the k fields, the lowest, the highest, each as a key's field; 17 (the lower end first). */

@@ -1,4 +1,4 @@
-//! Finds libtuple.a: in the folder that TUPLE_LIB_DIR names, else in ../target/staticlib, where `rt staticlib tuple` writes it.
+//! Finds libtuple.a: in the folder that TUPLE_LIB_DIR names, else in ../target/staticlib, where .ci/run puts it: crates/tuple_c/out/libtuple_c.a of `rt lib` there.
 
 use std::env;
 use std::path::PathBuf;
@@ -18,7 +18,7 @@ fn main() {
         let how = if named {
             "TUPLE_LIB_DIR must name the folder that holds libtuple.a (a whole path, or one from this crate's folder)"
         } else {
-            "run `rt staticlib tuple` in the repository, or set TUPLE_LIB_DIR to the folder that holds libtuple.a"
+            "run `rt lib` in crates/tuple_c and copy out/libtuple_c.a there, or set TUPLE_LIB_DIR to the folder that holds libtuple.a"
         };
         println!("cargo::error=there is no {}: {how}", library.display());
         return;

@@ -114,7 +114,7 @@ pub fn encode_typed_counted(ty: &Type, value: &Value) -> Result<(Vec<u8>, u64), 
     room::counted(first_room(&value), |out| ffi::encode_typed(&ty, &value, out))
 }
 
-/// [`encode_key`] with the number of zeros escaped: the zero bytes of all `Str` and `Bytes` in the value (theorem `zeros-escaped` of crate `format`). Each
+/// [`encode_key`] with the number of zeros escaped: the zero bytes of all `Str` and `Bytes` in the value (theorem `zeros_escaped` of crate `format`). Each
 /// makes the key a byte longer. No other zero counts: of a number, a reference, a blank or an end.
 ///
 /// ```
@@ -231,7 +231,7 @@ pub fn compare(a: &Value, b: &Value) -> Result<Ordering, Refusal> {
     ffi::compare(&a.sheet(), &b.sheet()).accepted().map(|answer| answer.order.cmp(&0))
 }
 
-/// Of all byte strings above every byte string that begins with the prefix, the least (theorem `strinc-tight` of crate `format`): no other end of a search
+/// Of all byte strings above every byte string that begins with the prefix, the least (theorem `strinc_tight` of crate `format`): no other end of a search
 /// for the prefix reads fewer rows. It is no end for the keys of a field: see [`above_field`]. Refusal: 19, where there is none.
 ///
 /// ```

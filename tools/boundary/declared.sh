@@ -1,5 +1,5 @@
 #!/bin/sh
-# That include/tuple.h declares what the library exports: writes the answers and the calls of crates/tuple in C's words, and compiles that beside the header.
+# That include/tuple.h declares what the library exports: writes the answers of crates/tuple and the calls of crates/tuple_c in C's words, and compiles that beside the header.
 # A field, a size, a parameter, an answer or a split of references that differs does not compile; a call or a refusal's number that only one of the two has is shown, and so is
 # a file of the code that names the split beside the constant and its one user, a second line that compares a discriminant with a tag, or a theorem that the
 # header, a comment of the code, the Rust crate or README names and that no crate has; and a call beside the two of encoding that shows the zeros escaped.
@@ -14,7 +14,7 @@ cat crates/tuple/src/answers.rt crates/tuple/src/steps.rt | awk '
         split("Length length Encoded encoded Sheet sheet Ends ends Order order Number number Part part CursorStep step PartStep part_step CharStep char", words, " ")
         for (i = 1; i < 20; i += 2) named[words[i]] = "tuple_" words[i + 1]
     }
-    /^#\[repr\(C\)\]$/ { getline; name = $3; fields = ""; checks = ""; answers++; next }
+    /^#\[repr\(C\)\]$/ { do getline; while (/^#\[/); name = $3; fields = ""; checks = ""; answers++; next }
     name != "" && /^}$/ {
         printf "struct in_library_%s {%s };\n%s", name, fields, checks
         printf "_Static_assert(sizeof(struct in_library_%s) == sizeof(%s), \"%s: size\");\n", name, named[name], named[name]
@@ -28,7 +28,7 @@ cat crates/tuple/src/answers.rt crates/tuple/src/steps.rt | awk '
         checks = checks "_Static_assert(__builtin_types_compatible_p(__typeof__(((" named[name] " *)0)->" field "), " c[type] "), \"" where ": type\");\n"
     }
     END { if (answers != 10) { print "the library has " answers " answers" > "/dev/stderr"; exit 1 } }' >"$made/answers.c"
-cat crates/tuple/src/*.rt | tr '\n' ' ' | sed 's/#\[no_mangle\]/\n/g' | awk '
+cat crates/tuple_c/src/*.rt | tr '\n' ' ' | sed 's/#\[unsafe(no_mangle)\]/\n/g' | awk '
     BEGIN {
         split("Length length Encoded encoded Sheet sheet Ends ends Order order Number number Part part CursorStep step PartStep part_step CharStep char", words, " ")
         for (i = 1; i < 20; i += 2) named[words[i]] = "tuple_" words[i + 1]
@@ -63,30 +63,30 @@ grep -rlE 'SEQUENCES|0x100_?0000_?0000|1_?099_?511_?627_?776|(<<|>>) ?40' crates
 printf 'crates/%s\n' format/src/lib.rt scalar/src/refs.rt | diff - "$made/split"
 grep -rnE '[!=]= tag\b|\btag [!=]=' crates/*/src --include='*.rt' | sed 's/:.*//' >"$made/searches"
 echo crates/sheet/src/alternatives.rt | diff - "$made/searches"
-grep -rhoE 'theorem `?[a-z0-9-]+' README.md include crates/*/src rust/src | tr -d '`' | sort -u >"$made/named"
+grep -rhoE 'theorem `?[a-z0-9_-]+' README.md include crates/*/src rust/src | tr -d '`' | sort -u >"$made/named"
 sed 's/^theorem //' "$made/named" | while read -r theorem; do
     grep -rqE "^pub $theorem :" crates/*/proofs --include='*.antt' || { echo "no crate has theorem $theorem"; exit 1; }
 done
 while read -r theorem place; do
     grep -qE "theorem \`?$theorem" "$place" || { echo "$place does not name theorem $theorem"; exit 1; }
 done <<'END'
-strinc-tight include/tuple.h
-strinc-tight crates/tuple/src/keys.rt
-strinc-tight rust/src/lib.rs
+strinc_tight include/tuple.h
+strinc_tight crates/tuple/src/keys.rt
+strinc_tight rust/src/lib.rs
 spans include/tuple.h
 spans crates/tuple/src/keys.rt
 spans rust/src/lib.rs
-exact-call include/tuple.h
-exact-call crates/tuple/src/keys.rt
+exact_call include/tuple.h
+exact_call crates/tuple/src/keys.rt
 scrolls include/tuple.h
 scrolls crates/tuple/src/reader.rt
 scrolls crates/chars/src/lib.rt
 scrolls rust/src/cursor.rs
 blanks include/tuple.h
 blanks rust/src/sheet.rs
-zeros-escaped include/tuple.h
-zeros-escaped crates/tuple/src/sheets.rt
-zeros-escaped rust/src/lib.rs
+zeros_escaped include/tuple.h
+zeros_escaped crates/tuple/src/sheets.rt
+zeros_escaped rust/src/lib.rs
 END
 sequences=$(sed -n 's/^pub const SEQUENCES: u64 = \([0-9a-fx_]*\);$/\1/p' crates/format/src/lib.rt | tr -d _)
 {

@@ -7,11 +7,24 @@ here=$(cd "$(dirname "$0")" && pwd)
 root=$(cd "$here/../.." && pwd)
 made=$(mktemp -d)
 trap 'rm -rf "$made"' EXIT
-cp -r "$root/crates" "$root/crates.txt" "$made"
-[ ! -d "$root/target" ] || cp -r "$root/target" "$made"
+tar -C "$root" --exclude='crates/*/out' -cf - crates crates.txt | tar -C "$made" -xf -
+[ ! -e "$root/HANDLES" ] || cp "$root/HANDLES" "$made"
 cd "$made"
-[ $# -gt 0 ] || set -- $(sed -n 's/^\([a-z_]*\):.*/\1/p' crates.txt)
+[ $# -gt 0 ] || set -- $(sed -n 's/^\([a-z_]*\)[ :].*/\1/p' crates.txt)
 tried=0 wrong=0
+
+# Checks a crate over what earlier checks kept in its out/.
+checks() { # CRATE
+    (cd "crates/$1" && rt check) >log 2>&1
+}
+
+# Puts the crate's text back as it stands, and leaves what its checks kept.
+restore() { # CRATE
+    for part in "crates/$1"/*; do
+        [ "$part" = "crates/$1/out" ] || rm -rf "$part"
+    done
+    tar -C "$root" --exclude='crates/*/out' -cf - "crates/$1" | tar -xf -
+}
 
 # Puts an edit's pairs of old and new text into the crate; an old text must stand once.
 apply() { # CRATE EDIT
@@ -31,14 +44,14 @@ apply() { # CRATE EDIT
 for crate in "$@"; do
     edits=$(ls "$root/crates/$crate/must-fail"/*.edit "$here/$crate"/*.edit 2>/dev/null || true)
     [ -n "$edits" ] || continue
-    rt dev "$crate" >log 2>&1 || { echo "$crate is not proved as it stands"; exit 1; }
+    checks "$crate" || { echo "$crate is not proved as it stands"; exit 1; }
     for edit in $edits; do
-        rm -rf "crates/$crate" && cp -r "$root/crates/$crate" crates
+        restore "$crate"
         tried=$((tried + 1))
         label=$crate/$(basename "$edit" .edit)
         if ! apply "$crate" "$edit"; then
             wrong=$((wrong + 1))
-        elif rt dev "$crate" >log 2>&1 || ! grep -q '^logic=not-proved' log; then
+        elif checks "$crate" || ! grep -q '^logic=not-proved' log; then
             echo "$label: NOT REFUSED"
             wrong=$((wrong + 1))
         else
@@ -47,7 +60,7 @@ for crate in "$@"; do
             echo "$label: $(echo "$why" | sed "s|$made/crates/$crate/||" | cut -c 1-200)"
         fi
     done
-    rm -rf "crates/$crate" && cp -r "$root/crates/$crate" crates
+    restore "$crate"
 done
 echo "$((tried - wrong)) refused, $wrong not"
 [ "$wrong" -eq 0 ]

@@ -6,8 +6,8 @@ here=$(cd "$(dirname "$0")" && pwd)
 root=$(cd "$here/../.." && pwd)
 made=$(mktemp -d)
 trap 'rm -rf "$made"' EXIT
-cp -r "$root/crates" "$root/crates.txt" "$made"
-[ ! -d "$root/target" ] || cp -r "$root/target" "$made"
+tar -C "$root" --exclude='crates/*/out' -cf - crates crates.txt | tar -C "$made" -xf -
+[ ! -e "$root/HANDLES" ] || cp "$root/HANDLES" "$made"
 rm -rf "$made"/crates/*/must-fail
 [ $# -gt 0 ] || set -- $(cd "$here" && ls -d */ | tr -d /)
 for crate in "$@"; do
