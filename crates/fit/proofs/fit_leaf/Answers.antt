@@ -2,7 +2,6 @@
 use Rattle.fit.proofs.Leaves.{leaf_int, leaf_run, run_short}
 use native.Mathlib.Omega.{arith}
 use Rattle.format.proofs.PlainLaws.{pool_run}
-use borrow.Author.Rules.{rules}
 use Rattle.fit.proofs.fit_leaf.Goals as goal
 
 pub returns-then-kind-eq-KIND_INT : goal.returns-then-kind-eq-KIND_INT

@@ -1,5 +1,4 @@
 -- The judge's answer, handed on with the ends.
-use borrow.Author.Rules.{rules}
 use Rattle.fit.proofs.fit_ref.Goals as goal
 
 pub returns-in-Refused : goal.returns-in-Refused

@@ -1,6 +1,5 @@
 -- By the answer's two cases.
 use native.Mathlib.Omega.{arith}
-use borrow.Author.Rules.{rules}
 use Rattle.fit.proofs.in_record.Goals as goal
 
 pub overflow_add-result : goal.overflow_add-result

@@ -2,7 +2,6 @@
 use native.Mathlib.Omega.{arith}
 use Rattle.scalar.proofs.Widths.{uint_long}
 use Rattle.fit.proofs.Leaves.{closed_well, closed_six, closed_eleven, closed_kept}
-use borrow.Author.Rules.{rules}
 use Rattle.fit.proofs.in_union.Goals as goal
 
 pub overflow_add-result : goal.overflow_add-result
