@@ -1,9 +1,5 @@
 use mathlib.Core.Path.{refl}
-use Prim.Native.Nat.{ℕ, ◌+◌, ◌-◌, ◌*◌, ◌<◌}
 use native.Mathlib.Omega.{arith}
-use lib.ListN.{length}
-use borrow.Author.Rules.{rules}
-use Rattle.write.specs.Write.{standing}
 use Rattle.write.proofs.Steps as laws
 use Rattle.write.proofs.+puts.Goals as goal
 
