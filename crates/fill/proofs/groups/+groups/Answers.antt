@@ -1,5 +1,4 @@
-use Rattle.std.proofs.Common.{ℕ, ◌+◌, ◌-◌, ◌*◌, ◌<◌, length, sym, ◌∙◌, arith, rules}
-use Rattle.fill.specs.Fill.{lent, standing}
+use Rattle.std.proofs.Common.{sym, ◌∙◌, arith}
 use Rattle.fill.proofs.RowLaws as laws
 use Rattle.fill.proofs.groups.+groups.Goals as goal
 use Rattle.fill.proofs.groups.+groups.Goals.{fill_fields-then-mark-eq-MARK_NULL+else-words-w1, fill_fields-else-mark-eq-MARK_NULL+else-words-w1-lt2+then-opens_group, fill_fields-else-mark-eq-MARK_NULL+else-words-w1-lt2+else-opens_group}
@@ -34,22 +33,24 @@ pub fill_fields-loop-mark-smaller : goal.fill_fields-loop-mark-smaller
 fill_fields-loop-mark-smaller t c =
     let on = sym c.loop-mark-test.true ∙ c.fields_end.ensures in
     elim c.if-mark-eq-MARK_NULL.branch [
-      fill_fields-then-mark-eq-MARK_NULL+else-words-w1 w ↦
-        let k = laws.null_long c.args.bytes.now c.loop-mark.j c.args.depth on w.if-mark-eq-MARK_NULL.true in omega (arith, k.0, k.1, w.fill_null-j.ensures.0, w.j-is)
-    | fill_fields-else-mark-eq-MARK_NULL+else-words-w1-lt2+then-opens_group w ↦ omega (arith, w.fill_group-g.ensures.onward.on, w.fill_group-g.ensures.onward.inside, w.j-is)
-    | fill_fields-else-mark-eq-MARK_NULL+else-words-w1-lt2+else-opens_group w ↦ omega (arith, w.fill_leaf-j.ensures.onward.on, w.fill_leaf-j.ensures.onward.inside, w.j-is) ]
+      | fill_fields-then-mark-eq-MARK_NULL+else-words-w1 w ↦
+          let k = laws.null_long c.args.bytes.now c.loop-mark.j c.args.depth on w.if-mark-eq-MARK_NULL.true in omega (arith, k.0, k.1, w.fill_null-j.ensures.0, w.j-is)
+      | fill_fields-else-mark-eq-MARK_NULL+else-words-w1-lt2+then-opens_group w ↦ omega (arith, w.fill_group-g.ensures.onward.on, w.fill_group-g.ensures.onward.inside, w.j-is)
+      | fill_fields-else-mark-eq-MARK_NULL+else-words-w1-lt2+else-opens_group w ↦ omega (arith, w.fill_leaf-j.ensures.onward.on, w.fill_leaf-j.ensures.onward.inside, w.j-is)
+    ]
 
 pub fill_fields-loop-mark-preserved : goal.fill_fields-loop-mark-preserved
 fill_fields-loop-mark-preserved t c =
     let inv = c.loop-mark.invariant in
     let on = sym c.loop-mark-test.true ∙ c.fields_end.ensures in
     elim c.if-mark-eq-MARK_NULL.branch [
-      fill_fields-then-mark-eq-MARK_NULL+else-words-w1 w ↦
-        laws.passing_on inv on (laws.null_filled on w.if-mark-eq-MARK_NULL.true (omega (arith, w.if-words-w1.false)) (omega (arith, inv.onward.pool_in, inv.onward.kept_pool)) w.fill_null-j.ensures)
-        w.words-is w.pool-is w.j-is w.w1-is w.p1-is
-    | fill_fields-else-mark-eq-MARK_NULL+else-words-w1-lt2+then-opens_group w ↦ laws.passing_on inv on w.fill_group-g.ensures w.words-is w.pool-is w.j-is w.w1-is w.p1-is
-    | fill_fields-else-mark-eq-MARK_NULL+else-words-w1-lt2+else-opens_group w ↦
-        laws.passing_on inv on (laws.leaf_filled c.args.depth w.fill_leaf-j.ensures) w.words-is w.pool-is w.j-is w.w1-is (rw (← w.pool_taken-p1.ensures) w.p1-is) ]
+      | fill_fields-then-mark-eq-MARK_NULL+else-words-w1 w ↦
+          laws.passing_on inv on (laws.null_filled on w.if-mark-eq-MARK_NULL.true (omega (arith, w.if-words-w1.false)) (omega (arith, inv.onward.pool_in, inv.onward.kept_pool)) w.fill_null-j.ensures)
+          w.words-is w.pool-is w.j-is w.w1-is w.p1-is
+      | fill_fields-else-mark-eq-MARK_NULL+else-words-w1-lt2+then-opens_group w ↦ laws.passing_on inv on w.fill_group-g.ensures w.words-is w.pool-is w.j-is w.w1-is w.p1-is
+      | fill_fields-else-mark-eq-MARK_NULL+else-words-w1-lt2+else-opens_group w ↦
+          laws.passing_on inv on (laws.leaf_filled c.args.depth w.fill_leaf-j.ensures) w.words-is w.pool-is w.j-is w.w1-is (rw (← w.pool_taken-p1.ensures) w.p1-is)
+    ]
 
 pub fill_fields-returns-after-loop-mark : goal.fill_fields-returns-after-loop-mark
 fill_fields-returns-after-loop-mark t c = laws.passing_end c.loop-mark.invariant (sym c.loop-mark-test.false ∙ c.fields_end.ensures)

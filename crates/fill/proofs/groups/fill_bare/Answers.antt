@@ -1,5 +1,5 @@
 -- The fields of what the key decodes to are what its bytes hold at depth 0; the record's two words go before theirs.
-use Rattle.std.proofs.Common.{arith, rules}
+use Rattle.std.proofs.Common.{arith}
 use Rattle.format.proofs.SoundLaws.{all_bytes}
 use Rattle.fill.proofs.TopLaws as laws
 use Rattle.fill.proofs.groups.fill_bare.Goals as goal

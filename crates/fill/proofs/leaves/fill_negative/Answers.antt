@@ -1,5 +1,5 @@
 -- A negative integer is what its bytes make less as many ones, by the width that its mark says.
-use Rattle.std.proofs.Common.{arith, rules}
+use Rattle.std.proofs.Common.{arith}
 use Rattle.fill.proofs.NumberLaws as laws
 use Rattle.fill.proofs.leaves.fill_negative.Goals as goal
 

@@ -1,5 +1,5 @@
 -- A run is measured once: it ends, so that its payload is put where there is room, or it is no run, or has no room, and then the word is 0.
-use Rattle.std.proofs.Common.{arith, rules, refl}
+use Rattle.std.proofs.Common.{arith, refl}
 use Rattle.fill.proofs.RunLaws as laws
 use Rattle.fill.proofs.leaves.fill_run.Goals as goal
 

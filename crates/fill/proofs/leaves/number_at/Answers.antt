@@ -1,5 +1,5 @@
 -- k bytes as a number: k of them, or the upper k of eight.
-use Rattle.std.proofs.Common.{arith, rules}
+use Rattle.std.proofs.Common.{arith}
 use Rattle.fill.proofs.NumberLaws as laws
 use Rattle.fill.proofs.leaves.number_at.Goals as goal
 
