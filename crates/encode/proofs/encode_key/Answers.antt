@@ -9,7 +9,6 @@ use Rattle.format.specs.Zeros.{encode_key_zeros}
 use Rattle.encode.specs.Encoded.{Sheets}
 use Rattle.encode.proofs.Keys.{sheets}
 use Rattle.encode.proofs.Outcomes.{said_ok, key_pool, bad_type, bad_value, refuses, no_room, done, key_refused, key_long, key_short}
-use borrow.Author.Rules.{rules}
 use Rattle.encode.proofs.encode_key.Goals as goal
 
 pub returns-then-not-admit_type : goal.returns-then-not-admit_type

@@ -9,7 +9,6 @@ use Rattle.fit.proofs.Steps.{value_short}
 use Rattle.encode.specs.Encoded.{Sheets}
 use Rattle.encode.proofs.Keys.{sheets, stands, whole_measured, whole_written}
 use Rattle.encode.proofs.Outcomes.{said_no, said_ok, typed_pool, bad_type, bad_value, refuses, no_room, done}
-use borrow.Author.Rules.{rules}
 use Rattle.encode.proofs.encode_typed.Goals as goal
 
 pub returns-then-not-admit_type : goal.returns-then-not-admit_type

@@ -4,7 +4,6 @@ use mathlib.Core.Path.{ap}
 use native.Mathlib.Omega.{arith}
 use Rattle.fit.proofs.Steps.{word_in}
 use Rattle.encode.proofs.Keys.{stands, key_whole, key_kind, type_second, value_second, key_count, fields_stand, key_measured}
-use borrow.Author.Rules.{rules}
 use Rattle.encode.proofs.fit_key.Goals as goal
 
 pub fit_value-requires : goal.fit_value-requires

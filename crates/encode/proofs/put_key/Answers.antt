@@ -3,7 +3,6 @@ use mathlib.Core.Bool.{not}
 use mathlib.Core.Path.{ap}
 use native.Mathlib.Omega.{arith}
 use Rattle.encode.proofs.Keys.{put_whole, accepted_second, put_bare}
-use borrow.Author.Rules.{rules}
 use Rattle.encode.proofs.put_key.Goals as goal
 
 pub returns-then-not-top_bare : goal.returns-then-not-top_bare
