@@ -17,7 +17,7 @@ slice_bounds-tell_key-count c = omega arith
 pub tell_key-told-requires : goal.tell_key-told-requires
 tell_key-told-requires c =
     let pre = c.requires in
-    (pre.admitted, simp (length-take, length-drop) (omega (arith, pre.pairs)))
+    record { typed = pre.admitted; fits = simp (length-take, length-drop) (omega (arith, pre.pairs)) }
 
 pub overflow_add-result : goal.overflow_add-result
 overflow_add-result c = omega arith
