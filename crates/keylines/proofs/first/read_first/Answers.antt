@@ -1,7 +1,6 @@
 -- `read_first` meets its contract: too long, no first line, or what its text says.
 use lib.Seq.{length-take-le}
 use mathlib.Core.Path.{refl, sym}
-use borrow.Author.Rules.{rules}
 use Rattle.keylines.proofs.FirstLaws as laws
 use Rattle.keylines.proofs.first.read_first.Goals as goal
 

@@ -1,8 +1,6 @@
 -- `put_piece` meets its contract: the rows are those put, and then those of the lines that are left; a line less is left each turn.
 use Prim.Native.Nat.{◌-◌}
-use native.Mathlib.Omega.{arith}
 use lib.ListN.{length}
-use borrow.Author.Rules.{rules}
 use Rattle.keylines.proofs.RowLaws as laws
 use Rattle.keylines.proofs.pieces.put_piece.Given as goal
 

@@ -1,6 +1,5 @@
 -- `tell_key` meets its contract: the row of a bad line, or of the key that was read by what checking it answers.
 use mathlib.Core.Path.{refl}
-use borrow.Author.Rules.{rules}
 use Rattle.keylines.proofs.RowLaws as laws
 use Rattle.keylines.proofs.pieces.tell_key.Goals as goal
 

@@ -1,7 +1,6 @@
 -- `tell_line` meets its contract: the line ends at the line feed found, or is the last and bad.
 use native.Mathlib.Omega.{arith}
 use lib.ListN.{length-take, length-drop}
-use borrow.Author.Rules.{rules}
 use Rattle.keylines.proofs.RowLaws as laws
 use Rattle.keylines.proofs.pieces.tell_line.Goals as goal
 

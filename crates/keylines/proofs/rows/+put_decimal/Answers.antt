@@ -1,7 +1,5 @@
-use borrow.Author.Rules.{rules}
 use native.Mathlib.Omega.{arith}
 use Rattle.keylines.proofs.DecimalLaws as laws
-use Prim.Native.Nat.{ℕ, ◌<◌}
 use Rattle.keylines.proofs.rows.+put_decimal.Goals as goal
 
 pub narrow-requires : goal.narrow-requires

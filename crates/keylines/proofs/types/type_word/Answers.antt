@@ -1,7 +1,4 @@
-use borrow.Author.Rules.{rules}
-use Prim.Native.Nat.{◌-◌}
 use native.Mathlib.Omega.{arith}
-use lib.ListN.{length}
 use Rattle.keylines.proofs.WordLaws as laws
 use Rattle.keylines.proofs.types.type_word.Goals as goal
 
