@@ -10,6 +10,7 @@ use std::io::{Read, Stdin};
 
 // The descriptors that are written to.
 const STDOUT: i32 = 1;
+
 const STDERR: i32 = 2;
 
 // How much of the input was read, and whether a read failed.
