@@ -8,9 +8,10 @@ ghost use Rattle.keylines.specs.Answers.{Counts, PieceAsked};
 use keylines::{First, KEY_ROOM, Left, PIECE_ROOM, Reason};
 use std::io::{Read, Stdin};
 
-// The descriptors that are written to.
+// The descriptor of standard output.
 const STDOUT: i32 = 1;
 
+// The descriptor of standard error.
 const STDERR: i32 = 2;
 
 // How much of the input was read, and whether a read failed.
