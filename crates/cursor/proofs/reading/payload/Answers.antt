@@ -1,5 +1,4 @@
 -- The picker of the fields picks it; where the field ended does not matter.
-use borrow.Author.Rules.{rules}
 use Rattle.cursor.proofs.reading.payload.Goals as goal
 
 pub returns-in-InKey : goal.returns-in-InKey
