@@ -31,6 +31,34 @@ trim_keep (c ∷ s) b h = ap (before c) (trim_keep s b h) ∙ kept c s
     kept c [] = refl
     kept c (d ∷ s) = refl
 
+-- nothing before another byte is dropped
+pub trim_behind : (x : List ℕ) (b : ℕ) (r : List ℕ) → (b ≡ 0xFF → ⊥) → trimmed (x ++ b ∷ r) ≡ x ++ b ∷ trimmed r
+unfolding trimmed
+trim_behind [] b r h = go (trimmed r)
+  where
+    go : (t : List ℕ) → before b t ≡ b ∷ t
+    go [] = rw (ne_eqb b 0xFF h)
+    go (c ∷ t) = refl
+trim_behind (c ∷ x) b r h = ap (before c) (trim_behind x b r h) ∙ kept x
+  where
+    kept : (y : List ℕ) → before c (y ++ b ∷ trimmed r) ≡ c ∷ (y ++ b ∷ trimmed r)
+    kept [] = refl
+    kept (d ∷ y) = refl
+
+-- strinc is as long as what is left
+pub strinc_long : (p q : List ℕ) → strinc p ≡ ok q → length q ≡ length (trimmed p)
+unfolding strinc raised
+strinc_long p q e = go (trimmed p) e
+  where
+    long : (l : List ℕ) → length (raised l) ≡ length l
+    long [] = refl
+    long (b ∷ []) = refl
+    long (b ∷ c ∷ s) = ap suc (long (c ∷ s))
+
+    go : (l : List ℕ) → raised_or l ≡ ok q → length q ≡ length l
+    go [] f = absurd (let z : ◌≡◌ {A = ℕ} 0 1 = cc in omega arith)
+    go (b ∷ l) f = let eq : q ≡ raised (b ∷ l) = cc in ap length eq ∙ long (b ∷ l)
+
 -- one is added to the last byte
 raise_last : (s : List ℕ) (b : ℕ) → raised (s ++ b ∷ []) ≡ s ++ suc b ∷ []
 unfolding raised

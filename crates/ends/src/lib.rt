@@ -8,7 +8,7 @@ ghost use Rattle.ends.specs.Ends.{Trims};
 use format::Length;
 
 // How many bytes a prefix has without its trailing FF. Most have none, and are done before the loop.
-fn trimmed_len(prefix: &[u8]) -> usize
+pub fn trimmed_len(prefix: &[u8]) -> usize
     ensures { Trims prefix.now result }
 {
     let mut n = prefix.len();

@@ -9,6 +9,7 @@ pub mod Unjudged
 pub mod Escapes
 pub mod Chunks
 pub mod Writing
+pub mod StartWriting
 pub mod Measures
 pub mod GroupLaws
 pub mod Rooms

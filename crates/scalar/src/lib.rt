@@ -7,6 +7,7 @@ pub mod payloads;
 pub mod puts;
 pub mod refs;
 pub mod runs;
+pub mod starts;
 pub mod tag;
 
 pub use ints::{GotInt, get_i64, get_u64};

@@ -3,11 +3,11 @@ use Prim.Native.Nat.{ℕ, ◌+◌, ◌≤◌}
 use mathlib.Core.List.{List}
 use mathlib.Core.Path.{◌≡◌, ap, sym, ◌∙◌, subst}
 use lib.ListN.{length, drop}
-use Rattle.format.specs.Tree.{Ty, Alts}
-use Rattle.format.specs.Sheet.{alt_count}
-use Rattle.format.specs.TypeSheet.{Part, got, type_at, alts, nesting, alt_nestings}
+use Rattle.format.specs.Tree.{Ty, Tys, Alts}
+use Rattle.format.specs.Sheet.{field_count, alt_count}
+use Rattle.format.specs.TypeSheet.{Part, got, type_at, types, alts, nesting, nestings, alt_nestings}
 use Rattle.format.proofs.SheetPlaces.{same_end}
-use Rattle.format.proofs.TypePlaces.{TypeIn, AltsIn, type_read, alts_read}
+use Rattle.format.proofs.TypePlaces.{TypeIn, TypesIn, AltsIn, type_read, types_read, alts_read}
 use Rattle.sheet.specs.Places.{Ends}
 
 -- a run that is read is read to its end
@@ -19,6 +19,10 @@ the_end w low e r a q h high f =
 -- the end that the walk finds is the tree's
 pub end_is : (w : List ℕ) (p e r g : ℕ) (t : Ty) → TypeIn w p t e → nesting t ≤ g → Ends w (p + 1) (type_at g (drop p w)) r → r ≡ e
 end_is w p e r g t s d h = the_end w (p + 1) e r t (type_at g (drop p w)) (type_read w p e g t s d) s.span.within h
+
+pub types_end_is : (w : List ℕ) (p e r g l : ℕ) (ts : Tys) → TypesIn w p ts e → field_count ts ≡ l → nestings ts ≤ g → Ends w p (types (type_at g) l (drop p w)) r → r ≡ e
+types_end_is w p e r g l ts s c d h =
+    the_end w p e r ts (types (type_at g) l (drop p w)) (ap (λ (n : ℕ). types (type_at g) n (drop p w)) (sym c) ∙ types_read w p e g ts s d) s.span.within h
 
 pub alts_end_is : (w : List ℕ) (p e r g l : ℕ) (us : Alts) → AltsIn w p us e → alt_count us ≡ l → alt_nestings us ≤ g → Ends w p (alts (type_at g) l (drop p w)) r → r ≡ e
 alts_end_is w p e r g l us s c d h =

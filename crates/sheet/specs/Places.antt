@@ -1,12 +1,12 @@
 -- What the walks over sheets answer: places, as the code has them, for the words that are left.
 use Rattle.std.specs.Prelude.{ℕ, ◌+◌, ◌≤◌, ◌<◌, List, ◌≡◌, length, drop}
 use Rattle.std.proofs.Math.Option.{Option, some, none}
-use Rattle.format.specs.Tree.{Ty, Alts}
-use Rattle.format.specs.Sheet.{alt_count}
-use Rattle.format.specs.TypeSheet.{max_groups, Part, got, no, nesting, alt_nestings}
+use Rattle.format.specs.Tree.{Ty, Tys, Alts}
+use Rattle.format.specs.Sheet.{field_count, alt_count}
+use Rattle.format.specs.TypeSheet.{max_groups, Part, got, no, nesting, nestings, alt_nestings}
 use Rattle.format.specs.ValueSheet.{Parts, value_at}
 use Rattle.format.specs.Search.{looked}
-use Rattle.format.proofs.TypePlaces.{TypeIn, AltsIn}
+use Rattle.format.proofs.TypePlaces.{TypeIn, TypesIn, AltsIn}
 use Rattle.format.proofs.Choose.{choose}
 
 -- what was read ends before the place r, which is at least low; 0 says that nothing was read
@@ -26,6 +26,10 @@ pub record RunEnds (w b : List ℕ) (at from r q : ℕ) : Type 0 where
 -- r is the end of whatever type stands at p
 pub record SkipsType (w : List ℕ) (p r : ℕ) : Type 0 where
   pub skips : (t : Ty) (e : ℕ) → TypeIn w p t e → nesting t ≤ max_groups → r ≡ e
+
+-- r is the end of whatever l types stand at p
+pub record SkipsTypes (w : List ℕ) (p l r : ℕ) : Type 0 where
+  pub skips : (ts : Tys) (e : ℕ) → TypesIn w p ts e → field_count ts ≡ l → nestings ts ≤ max_groups → r ≡ e
 
 -- r is the end of whatever l alternatives stand at p
 pub record SkipsAlts (w : List ℕ) (p l r : ℕ) : Type 0 where

@@ -6,5 +6,5 @@ mod alternatives; // alternatives.rt: a union's alternatives
 mod values; // values.rt: where a value ends, and whether a value sheet is admitted
 
 pub use alternatives::{Choice, alternative, skip_alternatives, union_end};
-pub use types::{admit_type, alternatives_end, asks, skip_type, type_end};
+pub use types::{admit_type, alternatives_end, asks, skip_fields, skip_type, type_end};
 pub use values::{Place, admit_value, value_end};

@@ -1,7 +1,7 @@
 // Type sheets: where a type ends, and whether a sheet is admitted.
 ghost use Rattle.std.specs.Prelude.{◌≡◌, true, ◌+◌, ◌≤◌, ◌<◌, length, drop, get_or};
 ghost use Rattle.format.specs.TypeSheet.{type_at, types, alts, type_of, is_some};
-ghost use Rattle.sheet.specs.Places.{Ends, SkipsType};
+ghost use Rattle.sheet.specs.Places.{Ends, SkipsType, SkipsTypes};
 
 // The place behind the type at `at`, of at most `groups` groups in one another; 0 if there is none. Only a group is a call.
 #[cycle(type_ends)]
@@ -130,6 +130,16 @@ pub fn skip_type(ty: &[u32], at: usize, asked: bool) -> usize
         return type_end(ty, at, format::MAX_SHEET_GROUPS);
     }
     at
+}
+
+// The place behind `count` types from `at` on, of an admitted sheet.
+pub fn skip_fields(ty: &[u32], at: usize, count: u32) -> usize
+    ensures { SkipsTypes ty.now at count result }
+{
+    if at > ty.len() {
+        return 0;
+    }
+    fields_end(ty, at, count, format::MAX_SHEET_GROUPS)
 }
 
 // Is the place behind the first of some types in a row asked for? Where a type follows, or where the place behind the last one is.

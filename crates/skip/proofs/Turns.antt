@@ -1,5 +1,5 @@
 -- One turn of the walk: a group's end, or a field.
-use mathlib.Core.Bool.{Bool, true, false, ◌&&◌, and_false}
+use mathlib.Core.Bool.{Bool, true, false, ◌&&◌, and-false}
 use mathlib.Core.Path.{◌≡◌, refl, ap, ◌∙◌}
 use mathlib.Core.List.{List, [], ◌∷◌}
 use Prim.Native.Nat.{ℕ, ◌+◌, ◌-◌, ◌<◌}
@@ -99,7 +99,7 @@ module _ (escape : Bool) (depth : ℕ) where
   pub turn_mark : (s : List ℕ) → (get_or s 0 0 ≡ 0 → ⊥) → turn escape depth s ≡ pass_field escape depth (get_or s 0 0) (drop 1 s)
   unfolding field
   turn_mark [] some = absurd (some refl)
-  turn_mark (m ∷ s) some = turn_field (m ∷ s) (rw (← ends_other (m ∷ s) some) (and_false (ltb 0 depth)))
+  turn_mark (m ∷ s) some = turn_field (m ∷ s) (rw (← ends_other (m ∷ s) some) (and-false (ltb 0 depth)))
 
   turn_front : (s : List ℕ) (d : ℕ) (r : List ℕ) → turn escape depth s ≡ Read.got d r → Front s r
   turn_front s d r e =

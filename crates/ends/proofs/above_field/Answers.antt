@@ -5,7 +5,6 @@ use Prim.Native.Nat.{ℕ}
 use lib.ListN.{length, set}
 use Rattle.ends.proofs.TrimLaws.{a_room, a_done}
 use native.Mathlib.Omega.{arith}
-use borrow.Author.Rules.{rules}
 use Rattle.ends.proofs.above_field.Goals as goal
 
 pub returns-then-out-end : goal.returns-then-out-end

@@ -5,7 +5,6 @@ use Prim.Native.Nat.{ℕ, ◌+◌, ◌-◌}
 use lib.ListN.{get_or, set}
 use Rattle.ends.proofs.TrimLaws.{s_none, s_room, s_done}
 use native.Mathlib.Omega.{arith}
-use borrow.Author.Rules.{rules}
 use Rattle.ends.proofs.strinc.Goals as goal
 
 pub returns-then-n-eq0 : goal.returns-then-n-eq0
@@ -20,7 +19,7 @@ returns-then-out-n c =
 pub overflow_add-out : goal.overflow_add-out
 overflow_add-out c =
     let f = c.trimmed_len-n.ensures.last (omega arith) in
-    let b = c.shared_slice_known-1.given (c.trimmed_len-n.result - 1) in
+    let b = c.type_inv.prefix (c.trimmed_len-n.result - 1) in
     omega (arith, f, b)
 
 pub returns : goal.returns

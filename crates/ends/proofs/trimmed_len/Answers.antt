@@ -1,5 +1,5 @@
 use native.Mathlib.Omega.{arith}
-use Rattle.ends.proofs.TrimLaws.{Trimming, trim_start, trim_more, trim_stop, trim_none, trim_empty}
+use Rattle.ends.proofs.TrimLaws.{trim_start, trim_more, trim_stop, trim_none, trim_empty}
 use Rattle.ends.proofs.trimmed_len.Goals as goal
 
 pub returns-then-n-eq0 : goal.returns-then-n-eq0

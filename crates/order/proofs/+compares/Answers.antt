@@ -1,4 +1,4 @@
-use Rattle.std.proofs.Common.{ℕ, ◌+◌, ◌-◌, ◌*◌, ◌<◌, length, rules}
+use Rattle.std.proofs.Common.{rules}
 use Rattle.order.proofs.Steps as laws
 use Rattle.order.proofs.+compares.Goals as goal
 

@@ -1,5 +1,5 @@
 -- Both go down with the words left of the first value. The fields' invariant: what was passed is equal, so what is left decides.
-use Rattle.std.proofs.Common.{ℕ, ◌+◌, ◌-◌, ◌*◌, ◌<◌, length, rules}
+use Rattle.std.proofs.Common.{◌+◌, ◌-◌, ◌*◌, length}
 use Rattle.order.proofs.Steps as laws
 use Rattle.order.proofs.+compares.Given as goal
 

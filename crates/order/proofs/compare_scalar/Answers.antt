@@ -1,5 +1,4 @@
 -- By rank: integers with the top bit flipped, references as they are, runs byte by byte; both walks stand behind their values.
-use Rattle.std.proofs.Common.{rules}
 use Rattle.order.proofs.Steps as laws
 use Rattle.order.proofs.compare_scalar.Goals as goal
 

@@ -1,6 +1,5 @@
 -- By the mark: a union, a null, a record too deep, a number cut short, or no mark.
 use Rattle.skip.proofs.Marks as laws
-use borrow.Author.Rules.{rules}
 use Rattle.skip.proofs.left_token.Goals as goal
 
 pub returns-then-rest-eq0 : goal.returns-then-rest-eq0

@@ -1,6 +1,5 @@
 -- What the null took is what the token takes.
 use Rattle.skip.proofs.Marks as laws
-use borrow.Author.Rules.{rules}
 use Rattle.skip.proofs.null_as.Goals as goal
 
 pub returns-in-Done : goal.returns-in-Done

@@ -1,6 +1,5 @@
 -- Outside every group the escape is due where it is required, inside one always.
 use Rattle.skip.proofs.Marks as laws
-use borrow.Author.Rules.{rules}
 use Rattle.skip.proofs.null_token.Goals as goal
 
 pub returns-then-depth-eq0 : goal.returns-then-depth-eq0

@@ -1,6 +1,5 @@
 -- A record opens where `open_record` took its mark, and nowhere else.
 use Rattle.skip.proofs.Turns as laws
-use borrow.Author.Rules.{rules}
 use Rattle.skip.proofs.record_opens.Goals as goal
 
 pub returns-in-Done : goal.returns-in-Done

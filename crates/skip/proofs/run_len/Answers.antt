@@ -1,7 +1,6 @@
 -- A run is passed over where `run_end` found its terminator.
 use Rattle.skip.proofs.Plain as laws
 use native.Mathlib.Omega.{arith}
-use borrow.Author.Rules.{rules}
 use Rattle.skip.proofs.run_len.Goals as goal
 
 pub run_end-end-requires : goal.run_end-end-requires

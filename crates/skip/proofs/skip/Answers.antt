@@ -1,7 +1,6 @@
-use mathlib.Core.Path.{sym, ◌∙◌}
-use Prim.Native.Nat.{◌-◌, ◌≤◌}
+use mathlib.Core.Bool.{not}
+use mathlib.Core.Path.{sym, ap, ◌∙◌}
 use native.Mathlib.Omega.{arith}
-use lib.ListN.{length}
 use borrow.Author.Rules.{rules}
 use Rattle.skip.proofs.Walking as laws
 use Rattle.skip.proofs.skip.Goals as goal
@@ -30,6 +29,9 @@ overflow_add-i-in-loop-depth c = search laws.ends_room
 pub overflow_sub-depth : goal.overflow_sub-depth
 overflow_sub-depth c = search laws.ends_deep
 
+pub slice_bounds-group_ends-start-in-loop-depth : goal.slice_bounds-group_ends-start-in-loop-depth
+slice_bounds-group_ends-start-in-loop-depth c = search laws.ends_inside
+
 pub slice_bounds-group_ends-count-in-loop-depth : goal.slice_bounds-group_ends-count-in-loop-depth
 slice_bounds-group_ends-count-in-loop-depth c = search laws.ends_inside
 
@@ -43,12 +45,11 @@ pub loop-depth-smaller : goal.loop-depth-smaller
 loop-depth-smaller c = laws.ends_less c.loop-depth.invariant.1 c.loop-depth.invariant.2 _ (omega arith)
 
 pub loop-depth-preserved : goal.loop-depth-preserved
-loop-depth-preserved c =
-    (
-      omega (arith, c.loop-depth.invariant.0),
-      laws.ends_on c.loop-depth.invariant.1 c.loop-depth.invariant.2 c.if-depth-eq0-2.false,
-      laws.ends_still c.group_ends-in-loop-depth.ensures c.if-not-group_ends.false,
-    )
+loop-depth-preserved c = (
+  omega (arith, c.loop-depth.invariant.0),
+  laws.ends_on c.loop-depth.invariant.1 c.loop-depth.invariant.2 c.if-depth-eq0-2.false,
+  laws.ends_still c.group_ends-in-loop-depth.ensures (ap not c.if-not-group_ends.false),
+)
 
 pub overflow_add-i-then-record_opens : goal.overflow_add-i-then-record_opens
 overflow_add-i-then-record_opens c = search laws.opens_room
@@ -93,18 +94,18 @@ left_token-requires c = laws.left _ _ c.unjudged_len-n.ensures c.if-n-eq0.true c
 pub overflow_add-i-in-Passed : goal.overflow_add-i-in-Passed
 overflow_add-i-in-Passed c =
     let s = c.ranges in
-    let r = laws.left_room c.loop-n.invariant.1 c.group_ends.ensures c.if-group_ends.false c.left_token.ensures c.inner-1.given.1 (omega (arith, s)) in
+    let r = laws.left_room c.loop-n.invariant.1 c.group_ends.ensures c.if-group_ends.false c.left_token.ensures c.in-Passed.is (omega (arith, s)) in
     omega arith
 
 pub groups-smaller : goal.groups-smaller
 groups-smaller c =
     let w = c.loop-n.invariant in
-    laws.left_less w.1 c.group_ends.ensures c.if-group_ends.false c.left_token.ensures c.inner-1.given.1 _ w.0
+    laws.left_less w.1 c.group_ends.ensures c.if-group_ends.false c.left_token.ensures c.in-Passed.is _ w.0
 
 pub groups-preserved : goal.groups-preserved
 groups-preserved c =
     let w = c.loop-n.invariant in
-    laws.left_on w.1 c.group_ends.ensures c.if-group_ends.false c.left_token.ensures c.inner-1.given.1 c.if-depth-eq0-4.false
+    laws.left_on w.1 c.group_ends.ensures c.if-group_ends.false c.left_token.ensures c.in-Passed.is c.if-depth-eq0-4.false
 
 pub returns-in-Bad : goal.returns-in-Bad
 returns-in-Bad c = search laws.left_bad
@@ -123,4 +124,4 @@ returns-then-depth-eq0-3 c =
 pub returns-then-depth-eq0-4 : goal.returns-then-depth-eq0-4
 returns-then-depth-eq0-4 c =
     let w = c.loop-n.invariant in
-    laws.left_end w.1 c.group_ends.ensures c.if-group_ends.false c.left_token.ensures c.inner-1.given.1 c.if-depth-eq0-4.true
+    laws.left_end w.1 c.group_ends.ensures c.if-group_ends.false c.left_token.ensures c.in-Passed.is c.if-depth-eq0-4.true

@@ -1,10 +1,7 @@
 -- The invariant of the loops: what is left of the walk at the place is the walk from the start (`Walk`), in the loop over ends with a group that ends there.
 -- What falls is the rest of the key.
-use mathlib.Core.Path.{sym, ◌∙◌}
 use Prim.Native.Nat.{◌-◌, ◌≤◌}
-use native.Mathlib.Omega.{arith}
 use lib.ListN.{length}
-use borrow.Author.Rules.{rules}
 use Rattle.skip.proofs.Walking as laws
 use Rattle.skip.proofs.skip.Given as goal
 

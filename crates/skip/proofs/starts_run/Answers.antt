@@ -1,6 +1,5 @@
 -- No byte, or the one mark or the other.
 use Rattle.skip.proofs.Marks as laws
-use borrow.Author.Rules.{rules}
 use Rattle.skip.proofs.starts_run.Goals as goal
 
 pub returns-then-rest-eq0 : goal.returns-then-rest-eq0

@@ -1,7 +1,6 @@
 -- Too deep first; below 256 what opened is what the field opens, one deeper.
 use native.Mathlib.Omega.{arith}
 use Rattle.skip.proofs.Marks as laws
-use borrow.Author.Rules.{rules}
 use Rattle.skip.proofs.union_token.Goals as goal
 
 pub returns-then-depth-ge-MAX_RECORD_DEPTH : goal.returns-then-depth-ge-MAX_RECORD_DEPTH

@@ -1,6 +1,5 @@
 -- No byte, an end by `ends_here`, or the byte met: the three cases of `group_end`.
 use Rattle.scalar.proofs.GroupLaws as laws
-use Rattle.std.proofs.Common.{rules}
 use Rattle.scalar.proofs.groups.close.Goals as goal
 
 pub returns-then-rest-eq0 : goal.returns-then-rest-eq0

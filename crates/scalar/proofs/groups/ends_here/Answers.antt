@@ -1,6 +1,5 @@
 -- By the first byte, then by the second: `ends_here` looks at no other.
 use Rattle.scalar.proofs.GroupLaws as laws
-use Rattle.std.proofs.Common.{rules}
 use Rattle.scalar.proofs.groups.ends_here.Goals as goal
 
 pub returns-then-rest-eq0 : goal.returns-then-rest-eq0

@@ -1,6 +1,5 @@
 -- No byte, another mark, an end where the escape is due, the escape, no escape due: the five cases of `null_at`.
 use Rattle.scalar.proofs.GroupLaws as laws
-use Rattle.std.proofs.Common.{rules}
 use Rattle.scalar.proofs.groups.null.Goals as goal
 
 pub returns-then-rest-eq0 : goal.returns-then-rest-eq0

@@ -1,6 +1,5 @@
 -- No byte, another mark, too deep, open: the four cases of `record_mark`.
 use Rattle.scalar.proofs.GroupLaws as laws
-use Rattle.std.proofs.Common.{rules}
 use Rattle.scalar.proofs.groups.open_record.Goals as goal
 
 pub returns-then-rest-eq0 : goal.returns-then-rest-eq0

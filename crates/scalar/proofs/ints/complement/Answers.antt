@@ -1,5 +1,5 @@
 -- The ones of so many bytes are those of a word, shifted; a number of so many bytes is at most them.
-use Rattle.std.proofs.Common.{arith, rules}
+use Rattle.std.proofs.Common.{arith}
 use Rattle.scalar.proofs.Numbers.{ones_shift}
 use Rattle.scalar.proofs.ints.complement.Goals as goal
 

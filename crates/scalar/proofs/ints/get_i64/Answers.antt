@@ -1,6 +1,5 @@
 -- By the sign in the mark: a negative one is `get_negative`, any other an unsigned integer whose range is narrowed.
 use Rattle.scalar.proofs.Integers as laws
-use Rattle.std.proofs.Common.{rules}
 use Rattle.scalar.proofs.ints.get_i64.Goals as goal
 
 pub returns-then-bytes-eq0 : goal.returns-then-bytes-eq0

@@ -1,6 +1,5 @@
 -- The number read is the complement of the magnitude; then a law for each way out, in the order of `get_neg`.
 use Rattle.scalar.proofs.Integers as laws
-use Rattle.std.proofs.Common.{rules}
 use Rattle.scalar.proofs.ints.get_negative.Goals as goal
 
 pub returns-then-bytes-width : goal.returns-then-bytes-width

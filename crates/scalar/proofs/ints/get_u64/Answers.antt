@@ -1,6 +1,5 @@
 -- A law for each way out: mark, bytes, width, in the order of `get_uint`.
 use Rattle.scalar.proofs.Integers as laws
-use Rattle.std.proofs.Common.{rules}
 use Rattle.scalar.proofs.ints.get_u64.Goals as goal
 
 pub returns-then-bytes-eq0 : goal.returns-then-bytes-eq0

@@ -1,6 +1,5 @@
 -- By the sign: a negative integer has as many bytes as its magnitude.
 use Rattle.scalar.proofs.Widths.{int_pos, length_int_neg}
-use Rattle.std.proofs.Common.{rules}
 use Rattle.scalar.proofs.ints.int_len.Goals as goal
 
 pub returns-then-w-lt-NEGATIVE : goal.returns-then-w-lt-NEGATIVE

@@ -1,6 +1,5 @@
 -- Below 48, a reference, above 48: the three cases of `mark_width`.
 use Rattle.scalar.proofs.Unjudged as laws
-use Rattle.std.proofs.Common.{rules}
 use Rattle.scalar.proofs.ints.mark_width.Goals as goal
 
 pub returns-then-mark-lt-MARK_INT_ZERO : goal.returns-then-mark-lt-MARK_INT_ZERO

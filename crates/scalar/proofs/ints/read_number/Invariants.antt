@@ -1,7 +1,6 @@
 -- The loop's invariant: n is the number of the i bytes passed, and below 256^i. What falls is the bytes left.
-use Rattle.std.proofs.Common.{◌≡◌, ℕ, ◌+◌, ◌-◌, ◌*◌, ◌^◌, ◌<◌, ◌≤◌, length, get_or, take, sym, refl, ap, ◌∙◌, arith}
+use Rattle.std.proofs.Common.{◌≡◌, ◌-◌, ◌^◌, ◌<◌, ◌≤◌, take}
 use Rattle.format.specs.Read.{number}
-use Rattle.scalar.proofs.Numbers.{number_take_suc, below_suc, below_56}
 use Rattle.scalar.proofs.ints.read_number.Given as goal
 
 abbrev pub invariant-loop-i : goal.invariant-loop-i

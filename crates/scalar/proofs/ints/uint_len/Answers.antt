@@ -1,5 +1,5 @@
 -- The mark and as many bytes as the width.
-use Rattle.std.proofs.Common.{arith, rules}
+use Rattle.std.proofs.Common.{arith}
 use Rattle.scalar.proofs.Widths.{width_le, length_uint}
 use Rattle.scalar.proofs.ints.uint_len.Goals as goal
 

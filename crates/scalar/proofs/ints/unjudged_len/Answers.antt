@@ -1,6 +1,6 @@
 -- No byte, a mark below, a mark above, cut short, whole: the cases of `unjudged`.
 use Rattle.scalar.proofs.Unjudged as laws
-use Rattle.std.proofs.Common.{arith, rules}
+use Rattle.std.proofs.Common.{arith}
 use Rattle.scalar.proofs.ints.unjudged_len.Goals as goal
 
 pub returns-then-rest-eq0 : goal.returns-then-rest-eq0

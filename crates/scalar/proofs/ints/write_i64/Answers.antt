@@ -1,5 +1,5 @@
 -- By the sign: a negative word is written as its complemented magnitude under a mark that counts down.
-use Rattle.std.proofs.Common.{length, ap, arith, rules}
+use Rattle.std.proofs.Common.{length, ap, arith}
 use Rattle.format.specs.Scalar.{neg_bytes}
 use Rattle.scalar.proofs.Widths.{width_le, length_uint, length_neg, int_pos, int_neg, length_int_neg}
 use Rattle.scalar.proofs.ints.write_i64.Goals as goal

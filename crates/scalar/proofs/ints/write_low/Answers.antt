@@ -1,6 +1,4 @@
-use Rattle.std.proofs.Common.{◌≡◌, ◌≤◌, length, sym, refl, ◌∙◌, arith, length-set}
-use Rattle.format.specs.Scalar.{be}
-use Rattle.format.specs.Fields.{put}
+use Rattle.std.proofs.Common.{◌≡◌, sym, refl, ◌∙◌, arith, length-set}
 use Rattle.blocks.proofs.Put.{put_none}
 use Rattle.scalar.proofs.Widths.{be_none, put_be_step}
 use Rattle.scalar.proofs.ints.write_low.Goals as goal

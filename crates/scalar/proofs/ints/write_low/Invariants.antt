@@ -1,9 +1,7 @@
 -- The loop's invariant: the low bytes of what is left, put at their places, make the whole. What falls is the bytes left.
-use Rattle.std.proofs.Common.{◌≡◌, ◌≤◌, length, sym, refl, ◌∙◌, arith, length-set}
+use Rattle.std.proofs.Common.{◌≡◌, ◌≤◌, length}
 use Rattle.format.specs.Scalar.{be}
 use Rattle.format.specs.Fields.{put}
-use Rattle.blocks.proofs.Put.{put_none}
-use Rattle.scalar.proofs.Widths.{be_none, put_be_step}
 use Rattle.scalar.proofs.ints.write_low.Given as goal
 
 abbrev pub invariant-loop-j : goal.invariant-loop-j

@@ -1,5 +1,5 @@
 -- A store of the mark and the bytes behind it are one put.
-use Rattle.std.proofs.Common.{◌∙◌, arith, length-set, rules}
+use Rattle.std.proofs.Common.{◌∙◌, arith, length-set}
 use Rattle.format.specs.Scalar.{be}
 use Rattle.blocks.proofs.Put.{set_put_cons}
 use Rattle.scalar.proofs.Widths.{length_be}
@@ -9,7 +9,7 @@ pub write_low-requires : goal.write_low-requires
 write_low-requires c = simp length-set (omega arith)
 
 pub shape_of-buf : goal.shape_of-buf
-shape_of-buf c = simp length-set at c.write_low.auto.0
+shape_of-buf c = simp length-set at c.write_low.auto.buf
 
 pub returns : goal.returns
 returns c =

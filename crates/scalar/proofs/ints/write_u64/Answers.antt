@@ -1,5 +1,5 @@
 -- The mark says the width, which is at most 8.
-use Rattle.std.proofs.Common.{arith, rules}
+use Rattle.std.proofs.Common.{arith}
 use Rattle.format.specs.Scalar.{uint_bytes}
 use Rattle.scalar.proofs.Widths.{width_le, length_uint}
 use Rattle.scalar.proofs.ints.write_u64.Goals as goal

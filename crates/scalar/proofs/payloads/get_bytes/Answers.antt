@@ -1,6 +1,5 @@
 -- What `marked_run` found is what `get_bytes` reads, and its payload is placed.
 use Rattle.scalar.proofs.Placing as laws
-use Rattle.std.proofs.Common.{rules}
 use Rattle.scalar.proofs.payloads.get_bytes.Goals as goal
 
 pub place_payload-requires : goal.place_payload-requires

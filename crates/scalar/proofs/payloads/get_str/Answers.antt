@@ -1,16 +1,21 @@
 -- What `marked_run` found is what `get_str` reads, and its payload is judged before it is placed.
 use Rattle.scalar.proofs.Placing as laws
-use Rattle.std.proofs.Common.{arith, rules}
+use Rattle.std.proofs.Common.{arith}
 use Rattle.scalar.proofs.payloads.get_str.Goals as goal
 
 pub slice_bounds-payload_is_text-count : goal.slice_bounds-payload_is_text-count
 slice_bounds-payload_is_text-count c =
-    let f = laws.str_found c.args.bytes.now c.args.scratch.now c.marked_run.ensures _ _ c.end-1.given.1 in
+    let f = laws.str_found c.args.bytes.now c.args.scratch.now c.marked_run.ensures _ _ c.in-Ends.is in
     omega (arith, f.escapes)
+
+pub slice_bounds-payload_is_text-start : goal.slice_bounds-payload_is_text-start
+slice_bounds-payload_is_text-start c =
+    let f = laws.str_found c.args.bytes.now c.args.scratch.now c.marked_run.ensures _ _ c.in-Ends.is in
+    omega (arith, f.within)
 
 pub payload_is_text-requires : goal.payload_is_text-requires
 payload_is_text-requires c =
-    let f = laws.str_found c.args.bytes.now c.args.scratch.now c.marked_run.ensures _ _ c.end-1.given.1 in
+    let f = laws.str_found c.args.bytes.now c.args.scratch.now c.marked_run.ensures _ _ c.in-Ends.is in
     f.long
 
 pub place_payload-requires : goal.place_payload-requires

@@ -1,5 +1,5 @@
 -- By where the payload is: within its slice it is that part, otherwise the empty one.
-use Rattle.std.proofs.Common.{sym, arith, length-take-le, rules}
+use Rattle.std.proofs.Common.{sym, arith, length-take-le}
 use Rattle.scalar.proofs.Placing.{pick_key, pick_no_key, pick_scratch, pick_no_scratch}
 use Rattle.scalar.proofs.payloads.payload.Goals as goal
 
@@ -7,31 +7,31 @@ pub returns-then-key-at : goal.returns-then-key-at
 returns-then-key-at c =
     let k = c.args.key.now in
     let s = c.args.scratch.now in
-    rw c.got-1.given.1 (pick_no_key k s c.got-1.given.0.1.1.0 c.got-1.given.0.0 c.got-1.given.0.1.0 (omega arith))
+    rw c.in-InKey.is (pick_no_key k s 0 c.in-InKey.at c.in-InKey.len (omega arith))
 
 pub returns-then-key-at-2 : goal.returns-then-key-at-2
 returns-then-key-at-2 c =
     let k = c.args.key.now in
     let s = c.args.scratch.now in
-    rw c.got-1.given.1 (pick_no_key k s c.got-1.given.0.1.1.0 c.got-1.given.0.0 c.got-1.given.0.1.0 (omega arith))
+    rw c.in-InKey.is (pick_no_key k s 0 c.in-InKey.at c.in-InKey.len (omega arith))
 
 pub returns-then-scratch-len : goal.returns-then-scratch-len
 returns-then-scratch-len c =
     let k = c.args.key.now in
     let s = c.args.scratch.now in
-    rw c.got-in-InScratch-1.given.1 (pick_no_scratch k s c.got-in-InScratch-1.given.0.1.0 c.got-in-InScratch-1.given.0.0 c.if-scratch-len.true)
+    rw c.in-InScratch.is (pick_no_scratch k s 0 c.in-InScratch.len c.if-scratch-len.true)
 
 pub slice_bounds-result-end-in-InScratch : goal.slice_bounds-result-end-in-InScratch
-slice_bounds-result-end-in-InScratch c = sym (length-take-le c.got-in-InScratch-1.given.0.0 c.args.scratch.now c.if-scratch-len.false)
+slice_bounds-result-end-in-InScratch c = sym (length-take-le c.in-InScratch.len c.args.scratch.now c.if-scratch-len.false)
 
 pub returns-else-key-at-2 : goal.returns-else-key-at-2
 returns-else-key-at-2 c =
     let k = c.args.key.now in
     let s = c.args.scratch.now in
-    rw c.got-1.given.1 (pick_key k s c.got-1.given.0.1.1.0 c.got-1.given.0.0 c.got-1.given.0.1.0 (omega arith))
+    rw c.in-InKey.is (pick_key k s 0 c.in-InKey.at c.in-InKey.len (omega arith))
 
 pub returns-else-scratch-len : goal.returns-else-scratch-len
 returns-else-scratch-len c =
     let k = c.args.key.now in
     let s = c.args.scratch.now in
-    rw c.got-in-InScratch-1.given.1 (pick_scratch k s c.got-in-InScratch-1.given.0.1.0 c.got-in-InScratch-1.given.0.0 c.if-scratch-len.false)
+    rw c.in-InScratch.is (pick_scratch k s 0 c.in-InScratch.len c.if-scratch-len.false)

@@ -1,6 +1,5 @@
 -- A payload as long as its run has no zero and stays in the key; any other goes to scratch where there is room.
 use Rattle.scalar.proofs.Placing as laws
-use Rattle.std.proofs.Common.{rules}
 use Rattle.scalar.proofs.payloads.place_payload.Goals as goal
 
 pub returns-then-n-end : goal.returns-then-n-end

@@ -1,6 +1,5 @@
 -- Bytes are a run behind their mark.
 use Rattle.format.specs.Fields.{put_bytes_call}
-use Rattle.std.proofs.Common.{rules}
 use Rattle.scalar.proofs.puts.put_bytes.Goals as goal
 
 pub returns : goal.returns

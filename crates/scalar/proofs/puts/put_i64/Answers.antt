@@ -1,5 +1,5 @@
 -- By the sign: a negative word is written as its complemented magnitude under a mark that counts down.
-use Rattle.std.proofs.Common.{arith, rules}
+use Rattle.std.proofs.Common.{arith}
 use Rattle.scalar.proofs.Rooms as laws
 use Rattle.scalar.proofs.Widths.{width_le}
 use Rattle.scalar.proofs.puts.put_i64.Goals as goal

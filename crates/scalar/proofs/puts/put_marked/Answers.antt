@@ -1,6 +1,5 @@
 -- Room was asked for as many bytes as are written, so all of them are put or none.
 use Rattle.scalar.proofs.Rooms as laws
-use Rattle.std.proofs.Common.{rules}
 use Rattle.scalar.proofs.puts.put_marked.Goals as goal
 
 pub write_marked-requires : goal.write_marked-requires

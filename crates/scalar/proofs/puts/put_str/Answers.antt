@@ -1,5 +1,4 @@
 -- Text is judged first; then it is a run behind its mark.
-use Rattle.std.proofs.Common.{rules}
 use Rattle.scalar.proofs.Rooms as laws
 use Rattle.scalar.proofs.puts.put_str.Goals as goal
 

@@ -1,5 +1,5 @@
 -- The mark says the width, which is at most 8: `put_marked` writes `uint_bytes`.
-use Rattle.std.proofs.Common.{arith, rules}
+use Rattle.std.proofs.Common.{arith}
 use Rattle.scalar.proofs.Rooms as laws
 use Rattle.scalar.proofs.Widths.{width_le}
 use Rattle.scalar.proofs.puts.put_u64.Goals as goal

@@ -1,5 +1,5 @@
 -- By where the place and the head end: past the buffer, within it without room for all, or with room.
-use Rattle.std.proofs.Common.{◌≡◌, ◌+◌, arith, rules}
+use Rattle.std.proofs.Common.{◌≡◌, ◌+◌, arith}
 use Rattle.scalar.proofs.Rooms.{room_place, room_short, room_some}
 use Rattle.scalar.proofs.puts.room.Goals as goal
 

@@ -1,5 +1,5 @@
 -- The sum fits where the second number is at most what the first leaves of 2^64 - 1.
-use Rattle.std.proofs.Common.{◌+◌, sym, arith, rules}
+use Rattle.std.proofs.Common.{◌+◌, sym, arith}
 use Rattle.scalar.proofs.Rooms.{shown_small, shown_large}
 use Rattle.scalar.proofs.puts.shown_sum.Goals as goal
 

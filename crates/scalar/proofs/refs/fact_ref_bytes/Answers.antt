@@ -1,5 +1,5 @@
 -- Nine bytes put over nine are all of them.
-use Rattle.std.proofs.Common.{arith, rules}
+use Rattle.std.proofs.Common.{arith}
 use Rattle.scalar.proofs.Widths.{ref_long, ref_over}
 use Rattle.scalar.proofs.refs.fact_ref_bytes.Goals as goal
 

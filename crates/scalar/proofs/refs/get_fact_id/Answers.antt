@@ -1,6 +1,5 @@
 -- A law for each way out: mark, bytes, sequence, in the order of `get_fact_id`.
 use Rattle.scalar.proofs.References as laws
-use Rattle.std.proofs.Common.{rules}
 use Rattle.scalar.proofs.refs.get_fact_id.Goals as goal
 
 pub returns-then-bytes-eq0 : goal.returns-then-bytes-eq0

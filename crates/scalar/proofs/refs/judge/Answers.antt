@@ -1,6 +1,5 @@
 -- The two tests of `fits_ref` in its order.
 use Rattle.scalar.proofs.References as laws
-use Rattle.std.proofs.Common.{rules}
 use Rattle.scalar.proofs.refs.judge.Goals as goal
 
 pub returns-then-sequence_of-eq0 : goal.returns-then-sequence_of-eq0

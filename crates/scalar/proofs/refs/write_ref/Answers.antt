@@ -1,5 +1,5 @@
 -- A reference is its mark and eight bytes.
-use Rattle.std.proofs.Common.{arith, rules}
+use Rattle.std.proofs.Common.{arith}
 use Rattle.scalar.proofs.Widths.{ref_long}
 use Rattle.scalar.proofs.refs.write_ref.Goals as goal
 

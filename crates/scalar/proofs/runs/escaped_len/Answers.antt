@@ -1,5 +1,5 @@
 -- The payload, one byte more for each zero, and the end.
-use Rattle.std.proofs.Common.{arith, rules}
+use Rattle.std.proofs.Common.{arith}
 use Rattle.format.proofs.ZeroLaws.{zeros_le, escaped_long}
 use Rattle.scalar.proofs.runs.escaped_len.Goals as goal
 

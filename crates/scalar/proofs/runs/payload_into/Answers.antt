@@ -1,5 +1,5 @@
 -- A payload as long as its run is the run, copied as it stands.
-use Rattle.std.proofs.Common.{sym, ap, ◌∙◌, arith, take_all, rules}
+use Rattle.std.proofs.Common.{sym, ap, ◌∙◌, arith, take_all}
 use Rattle.format.specs.Fields.{put}
 use Rattle.scalar.proofs.Escapes.{unescape_same}
 use Rattle.scalar.proofs.runs.payload_into.Goals as goal

@@ -1,5 +1,5 @@
 -- A payload as long as its run is the run.
-use Rattle.std.proofs.Common.{sym, ◌∙◌, rules}
+use Rattle.std.proofs.Common.{sym, ◌∙◌}
 use Rattle.scalar.proofs.Escapes.{unescape_same}
 use Rattle.scalar.proofs.runs.payload_is_text.Goals as goal
 

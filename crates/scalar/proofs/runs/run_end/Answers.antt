@@ -1,5 +1,4 @@
-use Rattle.std.proofs.Common.{◌≡◌, ◌-◌, ◌≤◌, length, refl, arith, rules}
-use Rattle.scalar.specs.Runs.{run_end}
+use Rattle.std.proofs.Common.{refl, arith}
 use Rattle.scalar.proofs.Measures as laws
 use Rattle.scalar.proofs.runs.run_end.Goals as goal
 

@@ -1,7 +1,6 @@
 -- The loop's invariant: the run ends at the same place, searched from i on or from the start. What falls is the bytes behind i.
-use Rattle.std.proofs.Common.{◌≡◌, ◌-◌, ◌≤◌, length, refl, arith, rules}
+use Rattle.std.proofs.Common.{◌≡◌, ◌-◌, ◌≤◌, length}
 use Rattle.scalar.specs.Runs.{run_end}
-use Rattle.scalar.proofs.Measures as laws
 use Rattle.scalar.proofs.runs.run_end.Given as goal
 
 abbrev pub invariant-loop-z : goal.invariant-loop-z

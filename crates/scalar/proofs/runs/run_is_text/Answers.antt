@@ -1,6 +1,4 @@
-use Rattle.std.proofs.Common.{◌≡◌, ◌-◌, length, drop, refl, arith, rules}
-use Rattle.format.specs.Utf8.{utf8}
-use Rattle.scalar.specs.Runs.{unescape}
+use Rattle.std.proofs.Common.{refl, arith}
 use Rattle.scalar.proofs.Judging as laws
 use Rattle.scalar.proofs.runs.run_is_text.Goals as goal
 

@@ -1,8 +1,7 @@
 -- The loop's invariant: all is text exactly where what is left is. What falls is the run left.
-use Rattle.std.proofs.Common.{◌≡◌, ◌-◌, length, drop, refl, arith, rules}
+use Rattle.std.proofs.Common.{◌≡◌, ◌-◌, length, drop}
 use Rattle.format.specs.Utf8.{utf8}
 use Rattle.scalar.specs.Runs.{unescape}
-use Rattle.scalar.proofs.Judging as laws
 use Rattle.scalar.proofs.runs.run_is_text.Given as goal
 
 abbrev pub invariant-loop-i : goal.invariant-loop-i

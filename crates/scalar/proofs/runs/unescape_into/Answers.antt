@@ -1,6 +1,5 @@
-use Rattle.std.proofs.Common.{◌-◌, length, drop, arith}
-use Rattle.blocks.proofs.Put.{Left, left_all}
-use Rattle.scalar.specs.Runs.{unescape}
+use Rattle.std.proofs.Common.{arith}
+use Rattle.blocks.proofs.Put.{left_all}
 use Rattle.scalar.proofs.Writing as laws
 use Rattle.scalar.proofs.runs.unescape_into.Goals as goal
 
@@ -27,9 +26,6 @@ returns-then-run-z c = laws.payload_done c.zero_from-z.ensures c.loop-i.invarian
 
 pub bounds-dst-o : goal.bounds-dst-o
 bounds-dst-o c = search laws.payload_zero_room
-
-pub overflow_add-o-in-loop-i : goal.overflow_add-o-in-loop-i
-overflow_add-o-in-loop-i c = omega (arith, slice-write-dst c)
 
 pub overflow_add-i : goal.overflow_add-i
 overflow_add-i c = omega arith

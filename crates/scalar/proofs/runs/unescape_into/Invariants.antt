@@ -1,8 +1,7 @@
 -- The loop's invariant: the payload of what is left of the run, put from o on, makes the whole. What falls is the run left.
-use Rattle.std.proofs.Common.{◌-◌, length, drop, arith}
-use Rattle.blocks.proofs.Put.{Left, left_all}
+use Rattle.std.proofs.Common.{◌-◌, length, drop}
+use Rattle.blocks.proofs.Put.{Left}
 use Rattle.scalar.specs.Runs.{unescape}
-use Rattle.scalar.proofs.Writing as laws
 use Rattle.scalar.proofs.runs.unescape_into.Given as goal
 
 abbrev pub invariant-loop-i : goal.invariant-loop-i

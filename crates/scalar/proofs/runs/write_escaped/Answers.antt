@@ -1,6 +1,6 @@
 -- The bytes before the first zero, and the run of the rest behind them, are the run: so it is as long as ZeroLaws says, and what it has beside the payload and its
 -- end are the zeros.
-use Rattle.std.proofs.Common.{arith, rules}
+use Rattle.std.proofs.Common.{arith}
 use Rattle.scalar.proofs.Escapes.{escaped_bounds}
 use Rattle.scalar.proofs.Chunks.{front_ahead, front_then, front_counted}
 use Rattle.scalar.proofs.runs.write_escaped.Goals as goal

@@ -1,6 +1,5 @@
-use Rattle.std.proofs.Common.{◌-◌, ◌≤◌, length, drop, arith, length-set}
-use Rattle.format.specs.Scalar.{escaped}
-use Rattle.blocks.proofs.Put.{Left, left_all}
+use Rattle.std.proofs.Common.{arith}
+use Rattle.blocks.proofs.Put.{left_all}
 use Rattle.scalar.proofs.Writing as laws
 use Rattle.scalar.proofs.runs.write_rest.Goals as goal
 
@@ -22,14 +21,8 @@ overflow_add-o c = search laws.run_place
 pub bounds-buf-o : goal.bounds-buf-o
 bounds-buf-o c = search laws.zero_room
 
-pub overflow_add-o-in-loop-z : goal.overflow_add-o-in-loop-z
-overflow_add-o-in-loop-z c = omega (arith, slice-write-buf c)
-
 pub bounds-buf-o-in-loop-z : goal.bounds-buf-o-in-loop-z
 bounds-buf-o-in-loop-z c = search laws.mark_room
-
-pub overflow_add-o-in-loop-z-2 : goal.overflow_add-o-in-loop-z-2
-overflow_add-o-in-loop-z-2 c = omega (arith, simp length-set at (slice-write-buf-2 c))
 
 pub overflow_add-i : goal.overflow_add-i
 overflow_add-i c = omega arith
@@ -42,9 +35,6 @@ loop-z-preserved c = (omega arith, search laws.run_on)
 
 pub bounds-buf-o-2 : goal.bounds-buf-o-2
 bounds-buf-o-2 c = search laws.end_room
-
-pub overflow_add-result : goal.overflow_add-result
-overflow_add-result c = omega (arith, slice-write-buf-3 c)
 
 pub shape_of-buf : goal.shape_of-buf
 shape_of-buf c = search laws.run_long

@@ -1,8 +1,7 @@
 -- The loop's invariant: the run of what is left of the payload, put from o on, makes the whole. What falls is the payload left.
-use Rattle.std.proofs.Common.{◌-◌, ◌≤◌, length, drop, arith, length-set}
+use Rattle.std.proofs.Common.{◌-◌, ◌≤◌, length, drop}
 use Rattle.format.specs.Scalar.{escaped}
-use Rattle.blocks.proofs.Put.{Left, left_all}
-use Rattle.scalar.proofs.Writing as laws
+use Rattle.blocks.proofs.Put.{Left}
 use Rattle.scalar.proofs.runs.write_rest.Given as goal
 
 abbrev pub invariant-loop-z : goal.invariant-loop-z

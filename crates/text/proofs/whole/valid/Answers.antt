@@ -8,7 +8,9 @@ pub loop-at-init : goal.loop-at-init
 loop-at-init c = (c.past_ascii-at.ensures.1, text_chunk c.args.s.now 0 c.past_ascii-at.result c.past_ascii-at.ensures.0 c.past_ascii-at.ensures.1 c.past_ascii-at.ensures.2)
 
 pub returns-then-next-stop : goal.returns-then-next-stop
-returns-then-next-stop c = sym (c.loop-at.invariant.1 ∙ text_chunk c.args.s.now c.loop-at.at c.low_blocks-low.result c.low_blocks-low.ensures.0 c.low_blocks-low.ensures.1 c.low_blocks-low.ensures.2 ∙ c.past_threes-from.ensures.2 ∙ c.walk-next.ensures.same ∙ step_stops c.args.s.now c.walk-next.result (omega arith) (c.walk-next.ensures.stuck c.if-next-stop.true))
+returns-then-next-stop c = sym (c.loop-at.invariant.1
+    ∙ text_chunk c.args.s.now c.loop-at.at c.low_blocks-low.result c.low_blocks-low.ensures.0 c.low_blocks-low.ensures.1 c.low_blocks-low.ensures.2
+    ∙ c.past_threes-from.ensures.2 ∙ c.walk-next.ensures.same ∙ step_stops c.args.s.now c.walk-next.result (omega arith) (c.walk-next.ensures.stuck c.if-next-stop.true))
 
 pub loop-at-smaller : goal.loop-at-smaller
 loop-at-smaller c =

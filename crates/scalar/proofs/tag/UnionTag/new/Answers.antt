@@ -1,5 +1,5 @@
 -- A discriminant of 32 bits has at most five bytes, so that tag and mark fit the six.
-use Rattle.std.proofs.Common.{arith, rules}
+use Rattle.std.proofs.Common.{arith}
 use Rattle.scalar.proofs.Widths as laws
 use Rattle.scalar.proofs.tag.UnionTag.new.Goals as goal
 

@@ -1,0 +1,11 @@
+-- The payload, and one byte more for each zero.
+use Rattle.std.proofs.Common.{arith}
+use Rattle.format.proofs.ZeroLaws.{zeros_le}
+use Rattle.format.proofs.StartLaws.{start_long}
+use Rattle.scalar.proofs.starts.start_len.Goals as goal
+
+pub overflow_add-result : goal.overflow_add-result
+overflow_add-result c = omega (arith, zeros_le c.args.payload.now)
+
+pub returns : goal.returns
+returns c = omega (arith, start_long c.args.payload.now)
