@@ -1,4 +1,4 @@
-/* Order-preserving tuple keys: the library's calls from C (x86-64). Link libtuple.a, which `rt staticlib tuple` writes to target/staticlib/.
+/* Order-preserving tuple keys: the library's calls from C (x86-64). Link libtuple.a, which `tools/library.sh` writes to target/staticlib/.
  *
  * A slice is a pointer and a length in elements; an empty one may have any pointer. Three things are the caller's, and nothing checks them:
  *   - a buffer that is written overlaps no other slice of its call: with a pool inside its buffer, tuple_replace may answer 0 and leave a key that is not the value's;

@@ -1,4 +1,4 @@
-//! Finds libtuple.a: in the folder that TUPLE_LIB_DIR names, else in ../target/staticlib, where .ci/run puts it: crates/tuple_c/out/libtuple_c.a of `rt lib` there.
+//! Finds libtuple.a: in the folder that TUPLE_LIB_DIR names, else in ../target/staticlib, where `tools/library.sh` writes it.
 
 use std::env;
 use std::path::PathBuf;
@@ -18,7 +18,7 @@ fn main() {
         let how = if named {
             "TUPLE_LIB_DIR must name the folder that holds libtuple.a (a whole path, or one from this crate's folder)"
         } else {
-            "run `rt lib` in crates/tuple_c and copy out/libtuple_c.a there, or set TUPLE_LIB_DIR to the folder that holds libtuple.a"
+            "run `tools/library.sh` in the repository, or set TUPLE_LIB_DIR to the folder that holds libtuple.a"
         };
         println!("cargo::error=there is no {}: {how}", library.display());
         return;

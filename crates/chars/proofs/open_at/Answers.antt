@@ -1,5 +1,4 @@
 -- `open_at` meets its contract: a law of the definition for each way out, the two refused ones through `refused`.
-use borrow.Author.Rules.{rules}
 use Rattle.chars.proofs.StepLaws.{open_eof, open_good, open_mark, as_refused}
 use Rattle.chars.proofs.open_at.Goals as goal
 

@@ -1,7 +1,6 @@
 -- `step_at` meets its contract: a finished reader by the definition itself, no bytes left by a law, and else by what the two kinds of step promise.
 use mathlib.Core.Path.{◌∙◌}
 use Rattle.format.specs.Chars.{step_at}
-use borrow.Author.Rules.{rules}
 use Rattle.chars.proofs.StepLaws.{step_eof}
 use Rattle.chars.proofs.step_at.Goals as goal
 

@@ -1,6 +1,5 @@
 -- `zero_step` meets its contract: a law for each way out, by the byte behind the 00.
 use mathlib.Core.Path.{◌∙◌}
-use borrow.Author.Rules.{rules}
 use Rattle.chars.proofs.StepLaws.{zero_last, zero_end, zero_char}
 use Rattle.chars.proofs.zero_step.Goals as goal
 

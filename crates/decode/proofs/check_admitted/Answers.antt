@@ -14,10 +14,10 @@ measure-requires c = top.at_top (top.type_at c.args.ty.now c.requires) c.top_bar
 
 pub returns-in-Refused : goal.returns-in-Refused
 returns-in-Refused c =
-    laws.c_bad c.args.ty.now (all_bytes c.args.bytes.now (λ i. omega (arith, c.shared_slice_known-2-1.given i)))
-    (record { admits = c.requires; top_is = c.top_bare.ensures; measures = c.measure.ensures }) c.no-1.given.1
+    laws.c_bad c.args.ty.now (all_bytes c.args.bytes.now (λ i. omega (arith, c.type_inv.bytes i)))
+    (record { admits = c.requires; top_is = c.top_bare.ensures; measures = c.measure.ensures }) c.in-Refused.is
 
 pub returns-in-Done : goal.returns-in-Done
 returns-in-Done c =
-    laws.c_good c.args.ty.now (all_bytes c.args.bytes.now (λ i. omega (arith, c.shared_slice_known-2-1.given i)))
-    (record { admits = c.requires; top_is = c.top_bare.ensures; measures = c.measure.ensures }) c.begun-1.given.1
+    laws.c_good c.args.ty.now (all_bytes c.args.bytes.now (λ i. omega (arith, c.type_inv.bytes i)))
+    (record { admits = c.requires; top_is = c.top_bare.ensures; measures = c.measure.ensures }) c.in-Done.is

@@ -2,15 +2,15 @@
 use Rattle.decode.proofs.FillLaws as laws
 use Rattle.format.proofs.SoundLaws.{all_bytes}
 use native.Mathlib.Omega.{arith}
-use borrow.Author.Tests.{not-false}
-use mathlib.Core.Path.{sym, ◌∙◌}
+use mathlib.Core.Path.{sym, ap, ◌∙◌}
+use mathlib.Core.Bool.{not}
 use borrow.Author.Rules.{rules}
 use Rattle.decode.proofs.check_key.Goals as goal
 
 pub returns-then-not-admit_type : goal.returns-then-not-admit_type
 returns-then-not-admit_type c =
-    laws.c_type c.args.ty.now (all_bytes c.args.bytes.now (λ i. omega (arith, c.shared_slice_known-2-1.given i)))
-    c.admit_type.ensures c.if-not-admit_type.true
+    laws.c_type c.args.ty.now (all_bytes c.args.bytes.now (λ i. omega (arith, c.type_inv.bytes i)))
+    c.admit_type.ensures (ap not c.if-not-admit_type.true)
 
 pub check_admitted-requires : goal.check_admitted-requires
-check_admitted-requires c = sym c.admit_type.ensures ∙ not-false _ c.if-not-admit_type.false
+check_admitted-requires c = sym c.admit_type.ensures ∙ c.if-not-admit_type.false

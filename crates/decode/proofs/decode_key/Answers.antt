@@ -7,5 +7,5 @@ use Rattle.decode.proofs.decode_key.Goals as goal
 
 pub returns : goal.returns
 returns c =
-    laws.key_call (all_bytes c.args.bytes.now (λ i. omega (arith, c.shared_slice_known-2-1.given i)))
+    laws.key_call (all_bytes c.args.bytes.now (λ i. omega (arith, c.type_inv.bytes i)))
     c.decode.ensures

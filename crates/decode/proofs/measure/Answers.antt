@@ -11,4 +11,4 @@ pub returns-in-Bad : goal.returns-in-Bad
 returns-in-Bad c = search laws.m_bad
 
 pub returns-else-next-bytes : goal.returns-else-next-bytes
-returns-else-next-bytes c = laws.m_done c.walk.ensures c.next-1.given.1 c.if-next-bytes.false refl
+returns-else-next-bytes c = laws.m_done c.walk.ensures c.in-Good.is c.if-next-bytes.false refl

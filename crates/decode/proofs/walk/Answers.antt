@@ -4,7 +4,7 @@ use borrow.Author.Rules.{rules}
 use Rattle.decode.proofs.walk.Goals as goal
 
 pub walk_bare-requires : goal.walk_bare-requires
-walk_bare-requires c = (c.requires.type, c.requires.kind c.if-bare.true)
+walk_bare-requires c = record { typed = c.requires.type; «record» = c.requires.kind c.if-bare.true }
 
 pub returns-then-bare : goal.returns-then-bare
 returns-then-bare c = laws.walked_bare c.if-bare.true c.walk_bare.ensures

@@ -2,7 +2,6 @@
 use Prim.Native.Nat.{◌≤◌}
 use native.Mathlib.Omega.{arith}
 use lib.ListN.{length, get_or-eq_default}
-use borrow.Author.Rules.{rules}
 use Rattle.encode.proofs.top_bare.Goals as goal
 
 pub returns-then-ty-eq0 : goal.returns-then-ty-eq0

@@ -1,14 +1,9 @@
 -- A value's walk says what the laws of `Steps` say by the words at its places, of the type itself, behind word 7 where that stands; its calls are for what stands
 -- behind the kind and its count. A row's loop keeps `Left`: whatever row stands at the start, what is left of it decides. How many fields are left falls; calls go
 -- on in the words, so what is left of those falls.
-use Prim.Native.Nat.{ℕ, ◌+◌, ◌-◌, ◌*◌, ◌<◌}
-use lib.ListN.{length, get_or}
-use native.Mathlib.Omega.{arith}
-use mathlib.Core.Path.{◌≡◌, sym, ◌∙◌}
-use borrow.Author.Rules.{rules}
-use Rattle.fit.proofs.Steps as laws
-use Rattle.fit.proofs.Optional as optional
-use Rattle.fit.proofs.Rows.{Left, start_left, next_stands, all_passed, field_refused, field_passed}
+use Prim.Native.Nat.{◌+◌, ◌-◌, ◌*◌}
+use lib.ListN.{length}
+use Rattle.fit.proofs.Rows.{Left}
 use Rattle.fit.proofs.+fits.Given as goal
 
 abbrev pub decreases-fit_fields : goal.decreases-fit_fields

@@ -2,7 +2,6 @@
 use Rattle.fit.proofs.Leaves.{leaf_int, leaf_run, run_short}
 use native.Mathlib.Omega.{arith}
 use Rattle.format.proofs.PlainLaws.{pool_run}
-use borrow.Author.Rules.{rules}
 use Rattle.fit.proofs.fit_leaf.Goals as goal
 
 pub returns-then-kind-eq-KIND_INT : goal.returns-then-kind-eq-KIND_INT
@@ -16,3 +15,6 @@ overflow_add-result-4 c = let pool = pool_run c.args.kind c.args.x c.if-kind-eq-
 
 pub returns : goal.returns
 returns c = search leaf_run
+
+pub slice_bounds-escaped_len-end : goal.slice_bounds-escaped_len-end
+slice_bounds-escaped_len-end c = let pool = pool_run c.args.kind c.args.x c.if-kind-eq-KIND_INT.false c.requires.4 in omega arith

@@ -2,7 +2,6 @@
 use native.Mathlib.Omega.{arith}
 use Rattle.fit.proofs.Steps as laws
 use Rattle.fit.proofs.Optional as optional
-use borrow.Author.Rules.{rules}
 use Rattle.fit.proofs.fit_other.Goals as goal
 
 pub bounds-ty-t : goal.bounds-ty-t

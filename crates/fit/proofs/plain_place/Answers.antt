@@ -1,5 +1,4 @@
 -- By the word that stands there.
-use borrow.Author.Rules.{rules}
 use borrow.Author.Tests.{eq-eqb, ne_eqb}
 use Rattle.fit.proofs.plain_place.Goals as goal
 

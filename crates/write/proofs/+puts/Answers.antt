@@ -1,17 +1,13 @@
 use mathlib.Core.Path.{refl}
-use Prim.Native.Nat.{ℕ, ◌+◌, ◌-◌, ◌*◌, ◌<◌}
 use native.Mathlib.Omega.{arith}
-use lib.ListN.{length}
-use borrow.Author.Rules.{rules}
-use Rattle.write.specs.Write.{standing}
 use Rattle.write.proofs.Steps as laws
 use Rattle.write.proofs.+puts.Goals as goal
 
 pub put_fields-loop-left-init : goal.put_fields-loop-left-init
-put_fields-loop-left-init t c = laws.walk_start c.requires.1
+put_fields-loop-left-init t c = laws.walk_start c.requires
 
 pub put_fields-put_value-r-requires : goal.put_fields-put_value-r-requires
-put_fields-put_value-r-requires t c = (omega (arith, c.requires.0, c.loop-left.invariant.onward.on), laws.walk_ready c.loop-left.invariant c.requires.1.deep)
+put_fields-put_value-r-requires t c = (omega (arith, c.decreases, c.loop-left.invariant.onward.on), laws.walk_ready c.loop-left.invariant c.requires.deep)
 
 pub put_fields-overflow_add-zeros : goal.put_fields-overflow_add-zeros
 put_fields-overflow_add-zeros t c = omega (arith, laws.walk_room c.loop-left.invariant c.put_value-r.ensures)
@@ -26,22 +22,22 @@ pub put_fields-returns : goal.put_fields-returns
 put_fields-returns t c = rw c.stand.ensures (laws.walk_end c.loop-left.invariant c.loop-left-test.false)
 
 pub put_value-returns-then-words-word : goal.put_value-returns-then-words-word
-put_value-returns-then-words-word t c = rw c.stand.ensures (laws.past c.requires.1 c.if-words-word.true)
+put_value-returns-then-words-word t c = rw c.stand.ensures (laws.past c.requires c.if-words-word.true)
 
 pub put_value-returns-then-kind-eq-VALUE_NULL : goal.put_value-returns-then-kind-eq-VALUE_NULL
-put_value-returns-then-kind-eq-VALUE_NULL t c = rw c.stand-then-kind-eq-VALUE_NULL.ensures (laws.wrote_null c.requires.1 c.if-words-word.false c.if-kind-eq-VALUE_NULL.true c.put_null-end.ensures)
+put_value-returns-then-kind-eq-VALUE_NULL t c = rw c.stand-then-kind-eq-VALUE_NULL.ensures (laws.wrote_null c.requires c.if-words-word.false c.if-kind-eq-VALUE_NULL.true c.put_null-end.ensures)
 
 pub put_value-returns-then-words-word-lt2 : goal.put_value-returns-then-words-word-lt2
-put_value-returns-then-words-word-lt2 t c = rw c.stand-then-words-word-lt2.ensures (laws.short c.requires.1 c.if-kind-eq-VALUE_NULL.false c.if-words-word-lt2.true)
+put_value-returns-then-words-word-lt2 t c = rw c.stand-then-words-word-lt2.ensures (laws.short c.requires c.if-kind-eq-VALUE_NULL.false c.if-words-word-lt2.true)
 
 pub put_value-returns-then-pool-from : goal.put_value-returns-then-pool-from
-put_value-returns-then-pool-from t c = rw c.stand-then-pool-from.ensures (laws.too_long c.requires.1 c.if-words-word-lt2.false refl c.if-kind-eq-VALUE_NULL.false refl c.if-kind-lt-VALUE_RECORD.true (rw c.run_of-n.ensures at c.if-pool-from.true))
+put_value-returns-then-pool-from t c = rw c.stand-then-pool-from.ensures (laws.too_long c.requires c.if-words-word-lt2.false refl c.if-kind-eq-VALUE_NULL.false refl c.if-kind-lt-VALUE_RECORD.true (rw c.run_of-n.ensures at c.if-pool-from.true))
 
 pub put_value-shape_of-out-then-kind-lt-VALUE_RECORD : goal.put_value-shape_of-out-then-kind-lt-VALUE_RECORD
 put_value-shape_of-out-then-kind-lt-VALUE_RECORD t c = c.put_scalar-s.ensures.stored.kept
 
 pub put_value-returns-then-kind-lt-VALUE_RECORD : goal.put_value-returns-then-kind-lt-VALUE_RECORD
-put_value-returns-then-kind-lt-VALUE_RECORD t c = rw c.stand-then-kind-lt-VALUE_RECORD.ensures (laws.wrote_plain c.requires.1 c.if-words-word-lt2.false refl c.if-kind-eq-VALUE_NULL.false refl c.if-kind-lt-VALUE_RECORD.true c.run_of-n.ensures c.if-pool-from.false c.put_scalar-s.ensures (omega arith))
+put_value-returns-then-kind-lt-VALUE_RECORD t c = rw c.stand-then-kind-lt-VALUE_RECORD.ensures (laws.wrote_plain c.requires c.if-words-word-lt2.false refl c.if-kind-eq-VALUE_NULL.false refl c.if-kind-lt-VALUE_RECORD.true c.run_of-n.ensures c.if-pool-from.false c.put_scalar-s.ensures (omega arith))
 
 pub put_value-returns : goal.put_value-returns
-put_value-returns t c = rw c.stand-2.ensures (laws.wrote_group c.requires.1 c.if-words-word-lt2.false refl c.if-kind-eq-VALUE_NULL.false refl c.if-kind-lt-VALUE_RECORD.false c.open_group-inner.ensures (rw c.count_of-count.ensures at c.put_fields-r.ensures) c.put_byte-end.ensures (omega arith))
+put_value-returns t c = rw c.stand-2.ensures (laws.wrote_group c.requires c.if-words-word-lt2.false refl c.if-kind-eq-VALUE_NULL.false refl c.if-kind-lt-VALUE_RECORD.false c.open_group-inner.ensures (rw c.count_of-count.ensures at c.put_fields-r.ensures) c.put_byte-end.ensures (omega arith))

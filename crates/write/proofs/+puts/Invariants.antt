@@ -1,10 +1,7 @@
 -- The walk by measure: a group's values stand two words on, so the words left fall from a value to the values in it, and a row is one above its own values.
 -- The loop's invariant is `Walking`: what the values that are left write, they write of the whole row; the count left falls. Each way out of a value is a law of Steps.
-use mathlib.Core.Path.{refl}
-use Prim.Native.Nat.{ℕ, ◌+◌, ◌-◌, ◌*◌, ◌<◌}
-use native.Mathlib.Omega.{arith}
+use Prim.Native.Nat.{◌+◌, ◌-◌, ◌*◌}
 use lib.ListN.{length}
-use borrow.Author.Rules.{rules}
 use Rattle.write.specs.Write.{standing}
 use Rattle.write.proofs.Steps as laws
 use Rattle.write.proofs.+puts.Given as goal

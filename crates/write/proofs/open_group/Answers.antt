@@ -1,7 +1,6 @@
 -- A group's beginning by its kind, and no bytes for a discriminant that no sheet has.
 use borrow.Author.Tests.{eq-eqb, ne_eqb, lt-ltb, le-ltb}
 use Rattle.write.proofs.Stores.{none_stored}
-use borrow.Author.Rules.{rules}
 use Rattle.write.proofs.open_group.Goals as goal
 
 pub returns-then-kind-eq-VALUE_RECORD : goal.returns-then-kind-eq-VALUE_RECORD

@@ -1,7 +1,6 @@
 -- One byte: a store where the place is within the buffer, and nothing at its end.
 use native.Mathlib.Omega.{arith}
 use Rattle.write.proofs.Stores.{byte_stored, no_room}
-use borrow.Author.Rules.{rules}
 use Rattle.write.proofs.put_byte.Goals as goal
 
 pub returns-then-at-out : goal.returns-then-at-out

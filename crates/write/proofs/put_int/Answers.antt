@@ -1,7 +1,6 @@
 -- An integer: its length is compared with the room left, so that its bytes fit where they are written.
 use native.Mathlib.Omega.{arith}
 use Rattle.write.proofs.Stores.{no_room}
-use borrow.Author.Rules.{rules}
 use Rattle.write.proofs.put_int.Goals as goal
 
 pub returns-then-out-at : goal.returns-then-out-at

@@ -2,7 +2,6 @@
 use native.Mathlib.Omega.{arith}
 use borrow.Author.Tests.{lt-ltb, le-ltb}
 use Rattle.write.proofs.Stores.{stored_then}
-use borrow.Author.Rules.{rules}
 use Rattle.write.proofs.put_null.Goals as goal
 
 pub returns-then-depth-gt0 : goal.returns-then-depth-gt0

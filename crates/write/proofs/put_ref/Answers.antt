@@ -2,7 +2,6 @@
 use native.Mathlib.Omega.{arith}
 use Rattle.scalar.proofs.Widths.{ref_long}
 use Rattle.write.proofs.Stores.{no_room, put_stored}
-use borrow.Author.Rules.{rules}
 use Rattle.write.proofs.put_ref.Goals as goal
 
 pub returns-then-out-at-lt-FACT_REF_FIELD_LEN : goal.returns-then-out-at-lt-FACT_REF_FIELD_LEN

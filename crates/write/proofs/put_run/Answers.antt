@@ -3,7 +3,6 @@ use mathlib.Core.Path.{sym, ◌∙◌}
 use native.Mathlib.Omega.{arith}
 use borrow.Author.Tests.{leb-true, leb-false}
 use Rattle.write.proofs.Stores.{run_counted, run_short}
-use borrow.Author.Rules.{rules}
 use Rattle.write.proofs.put_run.Goals as goal
 
 pub overflow_sub-out : goal.overflow_sub-out

@@ -2,7 +2,6 @@
 use native.Mathlib.Omega.{arith}
 use Rattle.format.proofs.PlainLaws.{pool_int, pool_ref, bytes_int, bytes_ref, bytes_str, bytes_raw}
 use Rattle.write.proofs.Stores.{none_counted}
-use borrow.Author.Rules.{rules}
 use Rattle.write.proofs.put_scalar.Goals as goal
 
 pub returns-then-kind-eq-VALUE_INT : goal.returns-then-kind-eq-VALUE_INT

@@ -1,7 +1,6 @@
 -- A union's tag: its bytes are the first of `UnionTag`'s, and its length is compared with the room left.
 use native.Mathlib.Omega.{arith}
 use Rattle.write.proofs.Stores.{no_room, put_stored}
-use borrow.Author.Rules.{rules}
 use Rattle.write.proofs.put_tag.Goals as goal
 
 pub returns-then-out-at : goal.returns-then-out-at

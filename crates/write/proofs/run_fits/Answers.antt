@@ -5,7 +5,6 @@ use native.Mathlib.Omega.{arith}
 use lib.Dec.{leb}
 use borrow.Author.Tests.{le-leb}
 use Rattle.scalar.proofs.Escapes.{escaped_bounds}
-use borrow.Author.Rules.{rules}
 use Rattle.write.proofs.run_fits.Goals as goal
 
 pub returns-then-payload-n : goal.returns-then-payload-n

@@ -1,6 +1,5 @@
 -- Outside every group nothing closes; in one the depth is over 0, and the end is at the front of the rest.
 use Rattle.cursor.proofs.ReadSteps as laws
-use borrow.Author.Rules.{rules}
 use Rattle.cursor.proofs.reading.close.Goals as goal
 
 pub returns-then-c-eq0 : goal.returns-then-c-eq0

@@ -1,6 +1,5 @@
 -- The three cases of `is_record_end`.
 use Rattle.cursor.proofs.ReadSteps as laws
-use borrow.Author.Rules.{rules}
 use Rattle.cursor.proofs.reading.is_record_end.Goals as goal
 
 pub returns-then-c-eq0 : goal.returns-then-c-eq0

@@ -1,6 +1,5 @@
 -- By what the step took: bytes move the cursor behind them, a refusal stays one.
 use Rattle.cursor.proofs.ReadSteps as laws
-use borrow.Author.Rules.{rules}
 use Rattle.cursor.proofs.reading.moved.Goals as goal
 
 pub on_to-requires : goal.on_to-requires

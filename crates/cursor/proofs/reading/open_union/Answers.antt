@@ -1,6 +1,5 @@
 -- The union opens at the front of the rest, so what it took ends in the key.
 use Rattle.cursor.proofs.ReadSteps as laws
-use borrow.Author.Rules.{rules}
 use Rattle.cursor.proofs.reading.open_union.Goals as goal
 
 pub overflow_add-depth : goal.overflow_add-depth

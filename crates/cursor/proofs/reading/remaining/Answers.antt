@@ -1,7 +1,6 @@
 -- Past the end nothing is left; otherwise the part is the rest.
 use Rattle.cursor.proofs.ReadSteps as laws
 use Rattle.scalar.proofs.Parts.{part_rest}
-use borrow.Author.Rules.{rules}
 use Rattle.cursor.proofs.reading.remaining.Goals as goal
 
 pub returns-then-key-at : goal.returns-then-key-at

@@ -1,6 +1,5 @@
 -- The bytes are read at the front of the rest: their place there is one in the key, and scratch is the same.
 use Rattle.cursor.proofs.ReadSteps as laws
-use borrow.Author.Rules.{rules}
 use Rattle.cursor.proofs.reading.take_bytes.Goals as goal
 
 pub taken_part-requires : goal.taken_part-requires

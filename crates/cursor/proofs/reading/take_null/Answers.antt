@@ -1,6 +1,5 @@
 -- An escape is due where the depth is not 0, as `null_at` says.
 use Rattle.cursor.proofs.ReadSteps as laws
-use borrow.Author.Rules.{rules}
 use Rattle.cursor.proofs.reading.take_null.Goals as goal
 
 pub moved-requires : goal.moved-requires

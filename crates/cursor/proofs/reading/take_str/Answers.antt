@@ -1,6 +1,5 @@
 -- The text is read at the front of the rest: its place there is one in the key, and scratch is the same.
 use Rattle.cursor.proofs.ReadSteps as laws
-use borrow.Author.Rules.{rules}
 use Rattle.cursor.proofs.reading.take_str.Goals as goal
 
 pub taken_part-requires : goal.taken_part-requires

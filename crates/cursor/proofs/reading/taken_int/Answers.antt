@@ -1,6 +1,5 @@
 -- By what was read: a number moves the cursor behind it, a refusal stays one.
 use Rattle.cursor.proofs.ReadSteps as laws
-use borrow.Author.Rules.{rules}
 use Rattle.cursor.proofs.reading.taken_int.Goals as goal
 
 pub on_to-requires : goal.on_to-requires

@@ -1,6 +1,5 @@
 -- By where the payload is: a place in the rest of the key is one in the key.
 use Rattle.cursor.proofs.ReadSteps as laws
-use borrow.Author.Rules.{rules}
 use Rattle.cursor.proofs.reading.taken_part.Goals as goal
 
 pub overflow_add-result : goal.overflow_add-result

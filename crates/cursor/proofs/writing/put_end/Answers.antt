@@ -1,7 +1,6 @@
 -- Outside every group nothing ends; in one the depth is over 0, and 00 is put.
 use Rattle.cursor.proofs.WriteSteps as laws
 use Rattle.cursor.proofs.ReadSteps.{deep_some}
-use borrow.Author.Rules.{rules}
 use Rattle.cursor.proofs.writing.put_end.Goals as goal
 
 pub returns-then-c-eq0 : goal.returns-then-c-eq0

@@ -1,6 +1,5 @@
 -- By the depth: 00 alone, or with its escape.
 use Rattle.cursor.proofs.WriteSteps as laws
-use borrow.Author.Rules.{rules}
 use Rattle.cursor.proofs.writing.put_null.Goals as goal
 
 pub returns-then-depth-eq0 : goal.returns-then-depth-eq0

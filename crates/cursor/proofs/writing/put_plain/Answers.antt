@@ -1,7 +1,6 @@
 -- Room was asked for all the bytes, so all of them are copied or none.
 use Rattle.cursor.proofs.WriteSteps as laws
 use native.Mathlib.Omega.{arith}
-use borrow.Author.Rules.{rules}
 use Rattle.cursor.proofs.writing.put_plain.Goals as goal
 
 pub copy_to-requires : goal.copy_to-requires

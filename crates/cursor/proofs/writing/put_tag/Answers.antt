@@ -1,6 +1,5 @@
 -- The first bytes of the tag, as many as it says, are `tag_bytes`.
 use Rattle.cursor.proofs.WriteSteps as laws
-use borrow.Author.Rules.{rules}
 use Rattle.cursor.proofs.writing.put_tag.Goals as goal
 
 pub slice_bounds-put_plain-end : goal.slice_bounds-put_plain-end

@@ -1,6 +1,5 @@
 -- At depth 256 nothing is put; below it the tag, one deeper.
 use Rattle.cursor.proofs.WriteSteps as laws
-use borrow.Author.Rules.{rules}
 use Rattle.cursor.proofs.writing.put_union.Goals as goal
 
 pub returns-then-depth-ge-MAX_RECORD_DEPTH : goal.returns-then-depth-ge-MAX_RECORD_DEPTH

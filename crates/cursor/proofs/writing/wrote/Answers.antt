@@ -1,6 +1,5 @@
 -- By what was put: a place becomes the cursor there, a refusal stays one.
 use Rattle.cursor.proofs.WriteSteps as laws
-use borrow.Author.Rules.{rules}
 use Rattle.cursor.proofs.writing.wrote.Goals as goal
 
 pub returns-in-Done : goal.returns-in-Done

@@ -1,7 +1,6 @@
 -- The walk by measure: a group's fields stand behind its mark, so the bytes left fall from a group to its fields, and fields are one above their own groups.
 -- The loop's invariant is `Passing`: what the fields that are left fill, they fill of all; the bytes left fall. Each way out is a law of RowLaws.
-use Rattle.std.proofs.Common.{ℕ, ◌+◌, ◌-◌, ◌*◌, ◌<◌, length, sym, ◌∙◌, ⊎_elim, arith, rules}
-use borrow.Author.Tests.{not-true, not-false}
+use Rattle.std.proofs.Common.{◌+◌, ◌-◌, ◌*◌, length}
 use Rattle.fill.specs.Fill.{lent, standing}
 use Rattle.fill.proofs.RowLaws as laws
 use Rattle.fill.proofs.groups.+groups.Given as goal

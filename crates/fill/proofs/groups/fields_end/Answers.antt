@@ -1,5 +1,5 @@
 -- What ends the fields, by what is left of the key: nothing, or inside a group its end.
-use Rattle.std.proofs.Common.{ap, ◌∙◌, arith, length-drop, rules}
+use Rattle.std.proofs.Common.{ap, ◌∙◌, arith, length-drop}
 use Rattle.format.specs.Read.{ends_here}
 use Rattle.scalar.proofs.Parts.{part_rest}
 use Rattle.fill.proofs.RowLaws as laws

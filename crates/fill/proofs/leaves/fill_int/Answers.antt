@@ -1,5 +1,5 @@
 -- An integer is negative below mark 48, and unsigned from there on.
-use Rattle.std.proofs.Common.{arith, rules}
+use Rattle.std.proofs.Common.{arith}
 use Rattle.fill.proofs.NumberLaws as laws
 use Rattle.fill.proofs.leaves.fill_int.Goals as goal
 

@@ -1,6 +1,5 @@
 -- The mark tells the kind: the four ways out are the four kinds that are no groups.
 use Rattle.fill.proofs.LeafLaws as laws
-use Rattle.std.proofs.Common.{rules}
 use Rattle.fill.proofs.leaves.fill_leaf.Goals as goal
 
 pub returns-then-mark-eq-MARK_STRING : goal.returns-then-mark-eq-MARK_STRING

@@ -1,5 +1,5 @@
 -- One store is a put of one word; a null has one byte at depth 0, and two inside a group.
-use Rattle.std.proofs.Common.{arith, rules, lt-ltb}
+use Rattle.std.proofs.Common.{arith, lt-ltb}
 use Rattle.blocks.proofs.Put.{set_put}
 use Rattle.fill.proofs.leaves.fill_null.Goals as goal
 

@@ -1,5 +1,5 @@
 -- A reference is the eight bytes behind its mark, where there are as many.
-use Rattle.std.proofs.Common.{arith, rules}
+use Rattle.std.proofs.Common.{arith}
 use Rattle.fill.proofs.NumberLaws as laws
 use Rattle.fill.proofs.leaves.fill_ref.Goals as goal
 

@@ -1,6 +1,5 @@
 -- An unsigned integer is as many bytes behind its mark as the mark says.
 use Rattle.fill.proofs.NumberLaws as laws
-use Rattle.std.proofs.Common.{rules}
 use Rattle.fill.proofs.leaves.fill_uint.Goals as goal
 
 pub returns : goal.returns

@@ -1,5 +1,5 @@
 -- Two stores side by side are one put of two words.
-use Rattle.std.proofs.Common.{arith, length-set, rules}
+use Rattle.std.proofs.Common.{arith, length-set}
 use Rattle.fill.proofs.PlaceLaws as places
 use Rattle.fill.proofs.leaves.put_pair.Goals as goal
 

@@ -1,5 +1,5 @@
 -- A width is how far the mark is from 48: any mark of another kind, or a number cut short, stands for no number, and 0 is as good as any.
-use Rattle.std.proofs.Common.{arith, rules}
+use Rattle.std.proofs.Common.{arith}
 use Rattle.fill.proofs.NumberLaws as laws
 use Rattle.fill.proofs.leaves.width_at.Goals as goal
 

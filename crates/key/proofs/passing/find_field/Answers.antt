@@ -5,21 +5,21 @@ use borrow.Author.Rules.{rules}
 use Rattle.key.proofs.passing.find_field.Goals as goal
 
 pub pass_fields-requires : goal.pass_fields-requires
-pass_fields-requires c = (laws.first_fields {n = c.args.n} (omega (arith, c.requires.1)) c.requires.0, omega arith)
+pass_fields-requires c = record { typed = laws.first_fields {n = c.args.n} (omega (arith, c.requires.inside)) c.requires.typed; inside = omega arith }
 
 pub pass_value-requires : goal.pass_value-requires
 pass_value-requires c =
     let first = c.pass_fields.ensures in
-    let to = c.a-1.given.1 in
-    (laws.field_type_lem c.requires.1 first to c.requires.0, laws.start_of c.requires.1 first to c.requires.0)
+    let to = c.in-To.is in
+    record { typed = laws.field_type_lem c.requires.inside first to c.requires.typed; inside = laws.start_of c.requires.inside first to c.requires.typed }
 
 pub pass_rest-requires : goal.pass_rest-requires
 pass_rest-requires c =
     let first = c.pass_fields.ensures in
-    let to = c.a-1.given.1 in
+    let to = c.in-To.is in
     let value = c.pass_value.ensures in
-    let on = c.behind-1.given.1 in
-    (laws.behind_fields c.requires.1 first to value on c.requires.0, laws.field_end_in c.requires.1 first to value on c.requires.0)
+    let on = c.in-To-pass_value.is in
+    record { typed = laws.behind_fields c.requires.inside first to value on c.requires.typed; inside = laws.field_end_in c.requires.inside first to value on c.requires.typed }
 
 pub returns-in-Refused : goal.returns-in-Refused
 returns-in-Refused c = search laws.find_bad

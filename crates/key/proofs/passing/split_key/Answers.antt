@@ -5,13 +5,13 @@ use borrow.Author.Rules.{rules}
 use Rattle.key.proofs.passing.split_key.Goals as goal
 
 pub pass_fields-requires : goal.pass_fields-requires
-pass_fields-requires c = (laws.first_fields c.requires.1 c.requires.0, omega arith)
+pass_fields-requires c = record { typed = laws.first_fields c.requires.inside c.requires.typed; inside = omega arith }
 
 pub pass_rest-requires : goal.pass_rest-requires
 pass_rest-requires c =
     let first = c.pass_fields.ensures in
-    let to = c.a-1.given.1 in
-    (laws.rest_fields c.requires.1 first to c.requires.0, laws.start_in c.requires.1 first to c.requires.0)
+    let to = c.in-To.is in
+    record { typed = laws.rest_fields c.requires.inside first to c.requires.typed; inside = laws.start_in c.requires.inside first to c.requires.typed }
 
 pub returns-in-Refused : goal.returns-in-Refused
 returns-in-Refused c = search laws.split_bad

@@ -1,4 +1,6 @@
 -- The value is there to be measured, and short enough for the sums; the checks stand in the definition's order, and the splice writes what was measured.
+use mathlib.Core.Path.{ap}
+use mathlib.Core.Bool.{not}
 use native.Mathlib.Omega.{arith}
 use Rattle.key.proofs.ValueLaws as laws
 use borrow.Author.Rules.{rules}
@@ -12,13 +14,13 @@ fit_value-requires c = search laws.v_stands
 
 pub overflow_add-len : goal.overflow_add-len
 overflow_add-len c =
-    let n = laws.v_short c.args.words.now c.args.pool.now c.admit_value.ensures c.if-not-admit_value.false c.fit_value.ensures c.n-1.given.1 in
-    omega (arith, n, c.requires.1.0, c.requires.1.1, c.requires.1.2)
+    let n = laws.v_short c.args.words.now c.args.pool.now c.admit_value.ensures (ap not c.if-not-admit_value.false) c.fit_value.ensures c.in-Fits.is in
+    omega (arith, n, c.requires.inside.0, c.requires.inside.1, c.requires.inside.2)
 
 pub overflow_add-len-in-Fits : goal.overflow_add-len-in-Fits
 overflow_add-len-in-Fits c =
-    let n = laws.v_short c.args.words.now c.args.pool.now c.admit_value.ensures c.if-not-admit_value.false c.fit_value.ensures c.n-1.given.1 in
-    omega (arith, n, c.requires.1.0, c.requires.1.1, c.requires.1.2)
+    let n = laws.v_short c.args.words.now c.args.pool.now c.admit_value.ensures (ap not c.if-not-admit_value.false) c.fit_value.ensures c.in-Fits.is in
+    omega (arith, n, c.requires.inside.0, c.requires.inside.1, c.requires.inside.2)
 
 pub returns-then-len-gt-MAX_KEY_BYTES : goal.returns-then-len-gt-MAX_KEY_BYTES
 returns-then-len-gt-MAX_KEY_BYTES c = search laws.v_long

@@ -1,5 +1,6 @@
 -- The checks stand in the definition's order; the field is replaced where find_field found it, of the type that stands there.
-use mathlib.Core.Path.{sym}
+use mathlib.Core.Path.{sym, ap}
+use mathlib.Core.Bool.{not}
 use Prim.Native.Nat.{◌≤◌}
 use native.Mathlib.Omega.{arith}
 use lib.ListN.{length}
@@ -23,7 +24,7 @@ pub bounds-ty-1 : goal.bounds-ty-1
 bounds-ty-1 c = search laws.count_word
 
 pub overflow_cast-n : goal.overflow_cast-n
-overflow_cast-n c = omega (arith, c.shared_slice_known-5-1.given 1)
+overflow_cast-n c = omega (arith, c.type_inv.ty 1)
 
 pub returns-then-n-field : goal.returns-then-n-field
 returns-then-n-field c = search laws.r_over
@@ -35,30 +36,30 @@ pub slice_bounds-find_field-end-2 : goal.slice_bounds-find_field-end-2
 slice_bounds-find_field-end-2 c = sym (length-take-le c.args.used c.args.buffer.now (omega (arith, c.if-buffer-used.false)))
 
 pub overflow_cast-field : goal.overflow_cast-field
-overflow_cast-field c = omega (arith, c.shared_slice_known-5-1.given 1, c.if-n-field.false)
+overflow_cast-field c = omega (arith, c.type_inv.ty 1, c.if-n-field.false)
 
 pub find_field-requires : goal.find_field-requires
 find_field-requires c =
     let a = c.args in
-    (laws.fields_at a.ty.now c.admit_type.ensures c.if-not-admit_type.false c.if-ty-ne-KIND_RECORD.false, omega (arith, c.if-n-field.false))
+    record { typed = laws.fields_at a.ty.now c.admit_type.ensures (ap not c.if-not-admit_type.false) c.if-ty-ne-KIND_RECORD.false; inside = omega (arith, c.if-n-field.false) }
 
 pub put_field-requires : goal.put_field-requires
 put_field-requires c =
     let a = c.args in
     let u : a.used ≤ length a.buffer.now = omega (arith, c.if-buffer-used.false) in
-    let f = laws.fields_at a.ty.now c.admit_type.ensures c.if-not-admit_type.false c.if-ty-ne-KIND_RECORD.false in
-    let ab = bytes_before a.used a.buffer.now (all_bytes a.buffer.now (λ i. omega (arith, c.slice_known-1.given i))) in
-    let w = laws.r_span f ab c.find_field.ensures c.at-1.given.1 in
-    (laws.r_typed f ab c.find_field.ensures c.at-1.given.1, (w.0, omega (arith, w.1, length-take-le a.used a.buffer.now u), u))
+    let f = laws.fields_at a.ty.now c.admit_type.ensures (ap not c.if-not-admit_type.false) c.if-ty-ne-KIND_RECORD.false in
+    let ab = bytes_before a.used a.buffer.now (all_bytes a.buffer.now (λ i. omega (arith, c.type_inv.buffer i))) in
+    let w = laws.r_span f ab c.find_field.ensures c.in-At.is in
+    record { typed = laws.r_typed f ab c.find_field.ensures c.in-At.is; inside = (w.0, omega (arith, w.1, length-take-le a.used a.buffer.now u), u) }
 
 pub returns-in-Refused : goal.returns-in-Refused
 returns-in-Refused c =
     let a = c.args in
-    let ab = bytes_before a.used a.buffer.now (all_bytes a.buffer.now (λ i. omega (arith, c.slice_known-1.given i))) in
+    let ab = bytes_before a.used a.buffer.now (all_bytes a.buffer.now (λ i. omega (arith, c.type_inv.buffer i))) in
     search (laws.r_bad, ab)
 
 pub returns-in-At : goal.returns-in-At
 returns-in-At c =
     let a = c.args in
-    let ab = bytes_before a.used a.buffer.now (all_bytes a.buffer.now (λ i. omega (arith, c.slice_known-1.given i))) in
+    let ab = bytes_before a.used a.buffer.now (all_bytes a.buffer.now (λ i. omega (arith, c.type_inv.buffer i))) in
     search (laws.r_good, ab)

@@ -1,6 +1,5 @@
 -- In a group the definition asks for the key's end, then the group's; bare fields ask for neither.
 use Rattle.read.proofs.FieldLaws as laws
-use borrow.Author.Rules.{rules}
 use Rattle.read.proofs.groups.field_refusal.Goals as goal
 
 pub returns-then-depth-eq0 : goal.returns-then-depth-eq0

@@ -1,6 +1,5 @@
 -- Bare fields end where they are; a group at its end, or it is refused as the definition says.
 use Rattle.read.proofs.FieldLaws as laws
-use borrow.Author.Rules.{rules}
 use Rattle.read.proofs.groups.fields_end.Goals as goal
 
 pub returns-then-depth-eq0 : goal.returns-then-depth-eq0

@@ -1,11 +1,10 @@
 -- A reference under its predicate is one that is read without it, and then judged.
 use native.Mathlib.Omega.{arith}
 use Rattle.read.proofs.LeafLaws as laws
-use borrow.Author.Rules.{rules}
 use Rattle.read.proofs.leaves.walk_ref.Goals as goal
 
 pub overflow_add-i : goal.overflow_add-i
-overflow_add-i c = omega (arith, laws.ref_within _ c.get_fact_id.ensures c.raw-1.given.1)
+overflow_add-i c = omega (arith, laws.ref_within _ c.get_fact_id.ensures c.in-Value.is)
 
 pub returns-in-Refused : goal.returns-in-Refused
 returns-in-Refused c = search laws.ref_bad

@@ -1,13 +1,8 @@
 -- The walkers call each other at later places of the type sheet: the words left fall. The measure is thrice them, one more for a value and two for the fields,
 -- since the fields call a value at the same place, and a value the walk under the type itself.
 -- The loop keeps that what the walk over the fields left says, with what is summed up so far, it says of them all.
-use Rattle.read.proofs.ValueLaws as laws
-use Rattle.read.proofs.BlankLaws as blanks
-use Prim.Native.Nat.{ℕ, ◌+◌, ◌-◌, ◌*◌, ◌<◌}
-use native.Mathlib.Omega.{arith}
-use mathlib.Core.Logic.{⊎_elim}
+use Prim.Native.Nat.{◌+◌, ◌-◌, ◌*◌}
 use lib.ListN.{length}
-use borrow.Author.Rules.{rules}
 use Rattle.read.proofs.FieldLaws as fields
 use Rattle.read.proofs.values.+walks.Given as goal
 

@@ -1,0 +1,7 @@
+#!/usr/bin/env bash
+# Builds the library for C and Rust, crate tuple_c, as target/staticlib/libtuple.a.
+set -euo pipefail
+cd "$(dirname "$0")/.."
+(cd crates/tuple_c && rt lib)
+mkdir -p target/staticlib
+cp crates/tuple_c/out/libtuple_c.a target/staticlib/libtuple.a
