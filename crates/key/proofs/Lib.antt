@@ -6,4 +6,6 @@ pub mod CallLaws
 pub mod ValueLaws
 pub mod EndLaws
 pub mod SpanningLaws
+pub mod FirstsLaws
+pub mod StartingLaws
 pub mod ListLaws

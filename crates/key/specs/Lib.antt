@@ -2,4 +2,6 @@
 pub mod Passing
 pub mod Keys
 pub mod Spanning
+pub mod Firsts
+pub mod Starting
 pub mod Lists

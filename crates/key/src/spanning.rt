@@ -9,7 +9,7 @@ use crate::bounding::Bounded;
 use fit::Fitted;
 
 // Is the sheet admitted, and a record? Then its second word is how many fields it has.
-fn admit_record(words: &[u64], pool: &[u8]) -> bool
+pub fn admit_record(words: &[u64], pool: &[u8]) -> bool
     ensures { result ≡ is_record (value_of words.now pool.now) }
 {
     if !sheet::admit_value(words, pool) {
@@ -19,7 +19,7 @@ fn admit_record(words: &[u64], pool: &[u8]) -> bool
 }
 
 // Is the type a record with a field behind the first k, k being the record sheet's count?
-fn has_next(ty: &[u32], words: &[u64]) -> bool
+pub fn has_next(ty: &[u32], words: &[u64]) -> bool
     requires { FirstWords ty.now words.now }
     ensures { result ≡ has_next ty.now words.now }
 {
