@@ -3,7 +3,6 @@ use Rattle.decode.proofs.FillLaws as laws
 use Rattle.decode.proofs.TopLaws as top
 use Rattle.format.proofs.SoundLaws.{all_bytes}
 use native.Mathlib.Omega.{arith}
-use borrow.Author.Rules.{rules}
 use Rattle.decode.proofs.check_admitted.Goals as goal
 
 pub top_bare-requires : goal.top_bare-requires

@@ -4,7 +4,6 @@ use Rattle.format.proofs.SoundLaws.{all_bytes}
 use native.Mathlib.Omega.{arith}
 use mathlib.Core.Path.{sym, ap, ◌∙◌}
 use mathlib.Core.Bool.{not}
-use borrow.Author.Rules.{rules}
 use Rattle.decode.proofs.check_key.Goals as goal
 
 pub returns-then-not-admit_type : goal.returns-then-not-admit_type

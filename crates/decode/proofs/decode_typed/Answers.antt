@@ -2,7 +2,6 @@
 use Rattle.decode.proofs.FillLaws as laws
 use Rattle.format.proofs.SoundLaws.{all_bytes}
 use native.Mathlib.Omega.{arith}
-use borrow.Author.Rules.{rules}
 use Rattle.decode.proofs.decode_typed.Goals as goal
 
 pub returns : goal.returns

@@ -1,7 +1,6 @@
 -- A refusal is the walk's or that of a byte left over; else the walk gives the sizes.
 use Rattle.decode.proofs.TopLaws as laws
 use mathlib.Core.Path.{refl}
-use borrow.Author.Rules.{rules}
 use Rattle.decode.proofs.measure.Goals as goal
 
 pub returns-then-next-bytes : goal.returns-then-next-bytes

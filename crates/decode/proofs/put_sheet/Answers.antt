@@ -1,6 +1,5 @@
 -- Whichever walk filled, it filled what is read so.
 use Rattle.decode.proofs.FillLaws as laws
-use borrow.Author.Rules.{rules}
 use Rattle.decode.proofs.put_sheet.Goals as goal
 
 pub returns-then-bare : goal.returns-then-bare

@@ -1,6 +1,5 @@
 -- Whichever walk went, it read what is read so.
 use Rattle.decode.proofs.TopLaws as laws
-use borrow.Author.Rules.{rules}
 use Rattle.decode.proofs.walk.Goals as goal
 
 pub walk_bare-requires : goal.walk_bare-requires
