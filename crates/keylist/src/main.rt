@@ -6,7 +6,13 @@ ghost use Rattle.std.specs.Prelude.{◌≡◌, length};
 ghost use Rattle.keylines.specs.Answers.{Counts, PieceAsked};
 
 use keylines::{First, KEY_ROOM, Left, PIECE_ROOM, Reason};
-use libc::{STDERR_FILENO, STDIN_FILENO, STDOUT_FILENO};
+use std::io::{Read, Stdin};
+
+// The descriptor of standard output.
+const STDOUT: i32 = 1;
+
+// The descriptor of standard error.
+const STDERR: i32 = 2;
 
 // How much of the input was read, and whether a read failed.
 #[derive(Clone, Copy)]
@@ -30,20 +36,21 @@ fn type_room() -> [u32; 4096]
 }
 
 // Reads standard input to its end, or until the buffer is full.
-fn read_input(buf: &mut [u8]) -> Input
+fn read_input(mut from: Stdin, buf: &mut [u8]) -> Input
     ensures { Counts result.count buf.new }
 {
     let mut n = 0;
     while n < buf.len() {
-        let got = libc::read(STDIN_FILENO, &mut buf[n..]);
-        let more = io::count(got, &buf[n..]);
-        if more == 0 {
-            return Input {
-                count: n,
-                failed: got < 0,
-            };
+        match from.read(&mut buf[n..]) {
+            Ok(0) => break,
+            Ok(more) => n += more,
+            Err(_) => {
+                return Input {
+                    count: n,
+                    failed: true,
+                };
+            }
         }
-        n += more;
     }
     Input {
         count: n,
@@ -52,7 +59,7 @@ fn read_input(buf: &mut [u8]) -> Input
 }
 
 fn say(text: &[u8]) {
-    io::write_all(STDERR_FILENO, text);
+    io::write_all(STDERR, text);
 }
 
 // Says why there is no type, on a line.
@@ -67,7 +74,7 @@ fn say_why(why: Reason) {
         ),
         Reason::BadWord(place) => {
             say(b"keylist: no type: word ");
-            io::print_decimal(STDERR_FILENO, place as u64);
+            io::print_decimal(STDERR, place as u64);
             say(
                 b" of the first line is not 1 to 10 digits of a number below 2^32; words are parted by tabs\n",
             );
@@ -82,7 +89,7 @@ fn say_why(why: Reason) {
 fn write_no_type() -> bool {
     let mut piece: [u8; PIECE_ROOM] = [0; PIECE_ROOM];
     let n = keylines::put_no_type(&mut piece);
-    io::write_all(STDOUT_FILENO, &piece[..n])
+    io::write_all(STDOUT, &piece[..n])
 }
 
 // Writes the rows of the key lines, piece by piece; whether they could be written.
@@ -95,7 +102,7 @@ fn write_rows(input: &[u8], lines: Left, ty: &[u32]) -> bool
     while left.at < input.len() {
         let put = keylines::put_piece(input, left, ty, &mut key, &mut piece);
         let n = put.len;
-        if !io::write_all(STDOUT_FILENO, &piece[..n]) {
+        if !io::write_all(STDOUT, &piece[..n]) {
             return false;
         }
         left = put.left;
@@ -104,9 +111,9 @@ fn write_rows(input: &[u8], lines: Left, ty: &[u32]) -> bool
 }
 
 // What was read is the input, also where a read failed: then this is said beside the answer.
-fn main() {
+fn main(rt: HostRuntime) {
     let mut input = input_room();
-    let read = read_input(&mut input);
+    let read = read_input(rt.stdin(), &mut input);
     let n = read.count;
     if read.failed {
         say(b"keylist: standard input can't be read to its end\n");

@@ -1,10 +1,7 @@
 -- `read_input` meets its contract: what was read is a part of the buffer, which keeps its length; a read that takes nothing ends it.
-use mathlib.Core.Path.{◌≡◌, refl}
+use mathlib.Core.Path.{◌≡◌}
 use Prim.Native.Nat.{◌-◌, ◌≤◌}
-use native.Mathlib.Omega.{arith}
 use lib.ListN.{length}
-use borrow.Author.Rules.{rules}
-use Rattle.keylines.proofs.PairLaws.{counts}
 use Rattle.keylist.proofs.read_input.Given as goal
 
 abbrev pub invariant-loop-n : goal.invariant-loop-n

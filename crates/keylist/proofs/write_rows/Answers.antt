@@ -1,8 +1,4 @@
-use Prim.Native.Nat.{◌-◌}
 use native.Mathlib.Omega.{arith}
-use lib.ListN.{length}
-use borrow.Author.Rules.{rules}
-use Rattle.keylines.specs.Answers.{PieceAsked}
 use Rattle.keylist.proofs.write_rows.Goals as goal
 
 pub loop-left-smaller : goal.loop-left-smaller

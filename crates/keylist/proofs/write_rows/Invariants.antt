@@ -1,8 +1,6 @@
 -- `write_rows` is safe and ends: a piece leaves what the next asks for, and less of the input than it found.
 use Prim.Native.Nat.{◌-◌}
-use native.Mathlib.Omega.{arith}
 use lib.ListN.{length}
-use borrow.Author.Rules.{rules}
 use Rattle.keylines.specs.Answers.{PieceAsked}
 use Rattle.keylist.proofs.write_rows.Given as goal
 

@@ -4,7 +4,6 @@ use mathlib.Core.Bool.{not}
 use native.Mathlib.Omega.{arith}
 use Rattle.format.proofs.SoundLaws.{all_bytes}
 use Rattle.key.proofs.CallLaws as laws
-use borrow.Author.Rules.{rules}
 use Rattle.key.proofs.bounding.bounds.Goals as goal
 
 pub returns-then-not-admit_type : goal.returns-then-not-admit_type

@@ -2,7 +2,6 @@
 use mathlib.Core.Path.{sym}
 use lib.Seq.{length-take-le}
 use Rattle.key.proofs.EndLaws as laws
-use borrow.Author.Rules.{rules}
 use Rattle.key.proofs.bounding.write_ends.Goals as goal
 
 pub returns-then-lower-n : goal.returns-then-lower-n

@@ -1,7 +1,6 @@
 -- The key's fields are its first k, the field and those behind it, each passed where the one before ends; all decode where the key does.
 use native.Mathlib.Omega.{arith}
 use Rattle.key.proofs.SpanLaws as laws
-use borrow.Author.Rules.{rules}
 use Rattle.key.proofs.passing.find_field.Goals as goal
 
 pub pass_fields-requires : goal.pass_fields-requires

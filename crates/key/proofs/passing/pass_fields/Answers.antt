@@ -1,6 +1,5 @@
 -- The walk over bare fields, with the place behind their types asked for: its refusal, or its two places.
 use Rattle.key.proofs.PassLaws as laws
-use borrow.Author.Rules.{rules}
 use Rattle.key.proofs.passing.pass_fields.Goals as goal
 
 pub returns-in-Bad : goal.returns-in-Bad

@@ -1,6 +1,5 @@
 -- The walk over bare fields; a byte that is left behind them refuses the key, as the definition's `whole` says.
 use Rattle.key.proofs.PassLaws as laws
-use borrow.Author.Rules.{rules}
 use Rattle.key.proofs.passing.pass_rest.Goals as goal
 
 pub returns-then-next-bytes : goal.returns-then-next-bytes

@@ -1,6 +1,5 @@
 -- The walk at depth 0, with the place behind the type asked for: its refusal, or its two places.
 use Rattle.key.proofs.PassLaws as laws
-use borrow.Author.Rules.{rules}
 use Rattle.key.proofs.passing.pass_value.Goals as goal
 
 pub returns-in-Bad : goal.returns-in-Bad

@@ -1,7 +1,6 @@
 -- The key's fields are its first k and the rest: the rest's types stand where the first end, and both parts decode where the key does.
 use native.Mathlib.Omega.{arith}
 use Rattle.key.proofs.SpanLaws as laws
-use borrow.Author.Rules.{rules}
 use Rattle.key.proofs.passing.split_key.Goals as goal
 
 pub pass_fields-requires : goal.pass_fields-requires

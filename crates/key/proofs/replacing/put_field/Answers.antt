@@ -3,7 +3,6 @@ use mathlib.Core.Path.{ap}
 use mathlib.Core.Bool.{not}
 use native.Mathlib.Omega.{arith}
 use Rattle.key.proofs.ValueLaws as laws
-use borrow.Author.Rules.{rules}
 use Rattle.key.proofs.replacing.put_field.Goals as goal
 
 pub returns-then-not-admit_value : goal.returns-then-not-admit_value

@@ -8,7 +8,6 @@ use lib.Seq.{length-take-le}
 use Rattle.format.proofs.Bytes.{bytes_before}
 use Rattle.format.proofs.SoundLaws.{all_bytes}
 use Rattle.key.proofs.CallLaws as laws
-use borrow.Author.Rules.{rules}
 use Rattle.key.proofs.replacing.replace.Goals as goal
 
 pub returns-then-not-admit_type : goal.returns-then-not-admit_type
@@ -48,18 +47,18 @@ put_field-requires c =
     let a = c.args in
     let u : a.used ≤ length a.buffer.now = omega (arith, c.if-buffer-used.false) in
     let f = laws.fields_at a.ty.now c.admit_type.ensures (ap not c.if-not-admit_type.false) c.if-ty-ne-KIND_RECORD.false in
-    let ab = bytes_before a.used a.buffer.now (all_bytes a.buffer.now (λ i. omega (arith, c.type_inv.buffer i))) in
+    let ab = bytes_before a.used a.buffer.now (all_bytes a.buffer.now (λ i. omega (arith, c.slice_known-1.given i))) in
     let w = laws.r_span f ab c.find_field.ensures c.in-At.is in
     record { typed = laws.r_typed f ab c.find_field.ensures c.in-At.is; inside = (w.0, omega (arith, w.1, length-take-le a.used a.buffer.now u), u) }
 
 pub returns-in-Refused : goal.returns-in-Refused
 returns-in-Refused c =
     let a = c.args in
-    let ab = bytes_before a.used a.buffer.now (all_bytes a.buffer.now (λ i. omega (arith, c.type_inv.buffer i))) in
+    let ab = bytes_before a.used a.buffer.now (all_bytes a.buffer.now (λ i. omega (arith, c.slice_known-1.given i))) in
     search (laws.r_bad, ab)
 
 pub returns-in-At : goal.returns-in-At
 returns-in-At c =
     let a = c.args in
-    let ab = bytes_before a.used a.buffer.now (all_bytes a.buffer.now (λ i. omega (arith, c.type_inv.buffer i))) in
+    let ab = bytes_before a.used a.buffer.now (all_bytes a.buffer.now (λ i. omega (arith, c.slice_known-1.given i))) in
     search (laws.r_good, ab)

@@ -1,6 +1,5 @@
 -- A sheet that is not admitted is no record; of an admitted one the first word tells the kind.
 use Rattle.key.proofs.SpanningLaws as laws
-use borrow.Author.Rules.{rules}
 use Rattle.key.proofs.spanning.admit_record.Goals as goal
 
 pub returns-then-not-admit_value : goal.returns-then-not-admit_value

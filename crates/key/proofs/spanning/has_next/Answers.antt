@@ -1,6 +1,5 @@
 -- Of a record type the two counts are compared.
 use Rattle.key.proofs.SpanningLaws as laws
-use borrow.Author.Rules.{rules}
 use Rattle.key.proofs.spanning.has_next.Goals as goal
 
 pub returns-then-ty-ne-KIND_RECORD : goal.returns-then-ty-ne-KIND_RECORD

@@ -1,7 +1,6 @@
 -- The first k types and values stand in a row, and the next type stands behind them; what the walks say of each is the definition's, in its order.
 use native.Mathlib.Omega.{arith}
 use Rattle.key.proofs.SpanningLaws as laws
-use borrow.Author.Rules.{rules}
 use Rattle.key.proofs.spanning.measure.Goals as goal
 
 pub bounds-words-1 : goal.bounds-words-1

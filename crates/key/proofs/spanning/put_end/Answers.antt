@@ -1,6 +1,5 @@
 -- The value is written where the fields ended.
 use Rattle.key.proofs.SpanningLaws as laws
-use borrow.Author.Rules.{rules}
 use Rattle.key.proofs.spanning.put_end.Goals as goal
 
 pub returns : goal.returns

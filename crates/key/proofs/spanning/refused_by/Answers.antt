@@ -2,7 +2,6 @@
 use Rattle.key.proofs.SpanningLaws as laws
 use mathlib.Core.Path.{ap}
 use mathlib.Core.Bool.{not}
-use borrow.Author.Rules.{rules}
 use Rattle.key.proofs.spanning.refused_by.Goals as goal
 
 pub returns-then-not-admit_type : goal.returns-then-not-admit_type

@@ -2,7 +2,6 @@
 use mathlib.Core.Path.{refl}
 use native.Mathlib.Omega.{arith}
 use Rattle.key.proofs.SpanningLaws as laws
-use borrow.Author.Rules.{rules}
 use Rattle.key.proofs.spanning.span.Goals as goal
 
 pub returns-then-no-ne0 : goal.returns-then-no-ne0

@@ -1,7 +1,6 @@
 -- `read_first` meets its contract: too long, no first line, or what its text says.
 use lib.Seq.{length-take-le}
-use mathlib.Core.Path.{sym}
-use borrow.Author.Rules.{rules}
+use mathlib.Core.Path.{refl, sym}
 use Rattle.keylines.proofs.FirstLaws as laws
 use Rattle.keylines.proofs.first.read_first.Goals as goal
 
@@ -15,7 +14,7 @@ pub slice_bounds-read_type-end : goal.slice_bounds-read_type-end
 slice_bounds-read_type-end c = sym (length-take-le _ _ c.find-feed.ensures.within)
 
 pub returns-in-None : goal.returns-in-None
-returns-in-None c = laws.no_first c.if-input-gt-MAX_INPUT.false c.find-feed.ensures c.if-feed-input.false c.read_type.ensures c.why-1.given.1
+returns-in-None c = laws.no_first c.if-input-gt-MAX_INPUT.false c.find-feed.ensures c.if-feed-input.false c.in-None.ensures refl
 
 pub returns-in-Words : goal.returns-in-Words
-returns-in-Words c = laws.a_first c.if-input-gt-MAX_INPUT.false c.find-feed.ensures c.if-feed-input.false c.read_type.ensures c.n-1.given.1
+returns-in-Words c = laws.a_first c.if-input-gt-MAX_INPUT.false c.find-feed.ensures c.if-feed-input.false c.in-Words.ensures refl

@@ -1,6 +1,5 @@
 -- `digit` meets its contract: one law for each range of bytes.
 use Rattle.keylines.proofs.PairLaws as laws
-use borrow.Author.Rules.{rules}
 use Rattle.keylines.proofs.keys.digit.Goals as goal
 
 pub returns-then-b-lt48 : goal.returns-then-b-lt48

@@ -1,9 +1,7 @@
 -- `pairs` meets its contract: the key is the bytes put so far, and then what the text that is left holds; a pair less is left each turn.
-use borrow.Author.Rules.{rules}
-use mathlib.Core.Path.{◌≡◌, refl}
+use mathlib.Core.Path.{◌≡◌}
 use Prim.Native.Nat.{◌-◌}
-use native.Mathlib.Omega.{arith}
-use lib.ListN.{length, length-set}
+use lib.ListN.{length}
 use Rattle.keylines.proofs.PairLaws as laws
 use Rattle.keylines.proofs.keys.pairs.Given as goal
 

@@ -1,6 +1,4 @@
-use Prim.Native.Nat.{◌-◌}
 use native.Mathlib.Omega.{arith}
-use lib.ListN.{length}
 use borrow.Author.Rules.{rules}
 use Rattle.keylines.proofs.RowLaws as laws
 use Rattle.keylines.proofs.pieces.put_piece.Goals as goal

@@ -1,13 +1,11 @@
 -- `put_piece` meets its contract: the rows are those put, and then those of the lines that are left; a line less is left each turn.
 use Prim.Native.Nat.{◌-◌}
-use native.Mathlib.Omega.{arith}
 use lib.ListN.{length}
-use borrow.Author.Rules.{rules}
 use Rattle.keylines.proofs.RowLaws as laws
 use Rattle.keylines.proofs.pieces.put_piece.Given as goal
 
 abbrev pub invariant-loop-at : goal.invariant-loop-at
-invariant-loop-at l = laws.PieceDone l.ty l.input (record { l.at = l.initial.at; line = l.initial.number }) l.initial.piece l.piece l.at l.number l.end
+invariant-loop-at l = laws.PieceDone l.ty l.input (record { at = l.initial.at; line = l.initial.number }) l.initial.piece l.piece l.at l.number l.end
 
 abbrev pub decreases-loop-at : goal.decreases-loop-at
 decreases-loop-at l = length l.input - l.at

@@ -1,7 +1,6 @@
 -- `tell_line` meets its contract: the line ends at the line feed found, or is the last and bad.
 use native.Mathlib.Omega.{arith}
 use lib.ListN.{length-take, length-drop}
-use borrow.Author.Rules.{rules}
 use Rattle.keylines.proofs.RowLaws as laws
 use Rattle.keylines.proofs.pieces.tell_line.Goals as goal
 
@@ -17,7 +16,7 @@ slice_bounds-tell_key-count c = omega arith
 pub tell_key-told-requires : goal.tell_key-told-requires
 tell_key-told-requires c =
     let pre = c.requires in
-    (pre.admitted, simp (length-take, length-drop) (omega (arith, pre.pairs)))
+    record { typed = pre.admitted; fits = simp (length-take, length-drop) (omega (arith, pre.pairs)) }
 
 pub overflow_add-result : goal.overflow_add-result
 overflow_add-result c = omega arith

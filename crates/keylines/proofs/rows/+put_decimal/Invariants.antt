@@ -1,8 +1,4 @@
 -- `put_decimal` meets its contract: the digits of a tenth, and then the last digit; the number falls with each call.
-use borrow.Author.Rules.{rules}
-use native.Mathlib.Omega.{arith}
-use Rattle.keylines.proofs.DecimalLaws as laws
-use Prim.Native.Nat.{ℕ, ◌<◌}
 use Rattle.keylines.proofs.rows.+put_decimal.Given as goal
 
 abbrev pub decreases-put_decimal : goal.decreases-put_decimal

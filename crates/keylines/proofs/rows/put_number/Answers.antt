@@ -1,5 +1,4 @@
 -- `put_number` meets its contract: the digits, and then one byte behind them.
-use borrow.Author.Rules.{rules}
 use Rattle.keylines.proofs.RowLaws as laws
 use Rattle.keylines.proofs.rows.put_number.Goals as goal
 

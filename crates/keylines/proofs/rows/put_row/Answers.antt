@@ -1,6 +1,5 @@
 -- `put_row` meets its contract: four numbers, each put where the one before it ends; the row has room, so each has.
 use native.Mathlib.Omega.{arith}
-use borrow.Author.Rules.{rules}
 use Rattle.keylines.proofs.RowLaws as laws
 use Rattle.keylines.proofs.rows.put_row.Goals as goal
 

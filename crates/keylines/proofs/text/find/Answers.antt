@@ -1,7 +1,5 @@
 use mathlib.Core.Path.{refl}
-use Prim.Native.Nat.{◌-◌}
 use native.Mathlib.Omega.{arith}
-use lib.ListN.{length}
 use Rattle.keylines.proofs.TextLaws as laws
 use Rattle.keylines.proofs.text.find.Goals as goal
 

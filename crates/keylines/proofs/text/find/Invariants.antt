@@ -1,7 +1,5 @@
 -- `find` meets its contract: what is left is searched as the whole was, and falls by a byte a turn.
-use mathlib.Core.Path.{refl}
 use Prim.Native.Nat.{◌-◌}
-use native.Mathlib.Omega.{arith}
 use lib.ListN.{length}
 use Rattle.keylines.proofs.TextLaws as laws
 use Rattle.keylines.proofs.text.find.Given as goal

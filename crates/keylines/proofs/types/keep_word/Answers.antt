@@ -1,7 +1,6 @@
 -- `keep_word` meets its contract: behind the end, setting changes nothing.
 use mathlib.Core.Path.{sym}
 use lib.Seq.{set_out}
-use borrow.Author.Rules.{rules}
 use Rattle.keylines.proofs.types.keep_word.Goals as goal
 
 -- src/types.rt:56:1

@@ -1,7 +1,4 @@
-use borrow.Author.Rules.{rules}
-use Prim.Native.Nat.{◌-◌}
 use native.Mathlib.Omega.{arith}
-use lib.ListN.{length}
 use Rattle.keylines.proofs.WordLaws as laws
 use Rattle.keylines.proofs.types.type_word.Goals as goal
 
@@ -27,7 +24,7 @@ pub overflow_mul-n : goal.overflow_mul-n
 overflow_mul-n c = omega arith
 
 pub overflow_add-n : goal.overflow_add-n
-overflow_add-n c = omega (arith, c.wide.ensures, c.shared_slice_known-in-loop-i-1.given c.loop-i.i)
+overflow_add-n c = omega (arith, c.wide.ensures, c.type_inv.text c.loop-i.i)
 
 pub returns-then-n-gt4294967295 : goal.returns-then-n-gt4294967295
 returns-then-n-gt4294967295 c = laws.word_large c.loop-i.invariant c.loop-i-test.true c.if-b-lt48.false c.if-b-gt57.false c.wide.ensures c.if-n-gt4294967295.true

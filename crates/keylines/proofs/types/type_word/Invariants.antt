@@ -1,7 +1,5 @@
 -- `type_word` meets its contract: the digits left go on from the number that those before them make; a digit less is left each turn.
-use borrow.Author.Rules.{rules}
 use Prim.Native.Nat.{◌-◌}
-use native.Mathlib.Omega.{arith}
 use lib.ListN.{length}
 use Rattle.keylines.proofs.WordLaws as laws
 use Rattle.keylines.proofs.types.type_word.Given as goal

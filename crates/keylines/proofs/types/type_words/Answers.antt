@@ -1,8 +1,6 @@
-use mathlib.Core.Path.{◌≡◌, refl, ap, ◌∙◌}
-use Prim.Native.Nat.{◌-◌}
+use mathlib.Core.Path.{refl, ap, ◌∙◌}
 use native.Mathlib.Omega.{arith}
 use lib.ListN.{length, length-set}
-use borrow.Author.Rules.{rules}
 use Rattle.keylines.proofs.TextLaws.{not_end}
 use Rattle.keylines.proofs.WordLaws as laws
 use Rattle.keylines.proofs.types.type_words.Goals as goal
@@ -23,7 +21,7 @@ pub shape_of-ty-in_default : goal.shape_of-ty-in_default
 shape_of-ty-in_default c = c.loop-x.invariant.1
 
 pub returns-in_default : goal.returns-in_default
-returns-in_default c = record { are = laws.words_bad c.loop-x.invariant.0 c.find-end.ensures c.type_word.ensures c.enum_told-1.given.1 }
+returns-in_default c = record { are = laws.words_bad c.loop-x.invariant.0 c.find-end.ensures c.type_word.ensures c.in_default.is }
 
 pub overflow_add-n : goal.overflow_add-n
 overflow_add-n c =
@@ -40,7 +38,7 @@ pub loop-x-preserved : goal.loop-x-preserved
 loop-x-preserved c =
     let inv = c.loop-x.invariant in
     let f = c.find-end.ensures in (
-      laws.words_next inv.0 f c.type_word.ensures c.x-1.given.1 c.keep_word.ensures (not_end f c.if-end-text.false),
+      laws.words_next inv.0 f c.in-Is.ensures refl c.keep_word.ensures (not_end f c.if-end-text.false),
       ap length c.keep_word.ensures ∙ simp length-set inv.1,
     )
 
@@ -49,7 +47,7 @@ shape_of-ty-then-ty-n c = ap length c.keep_word.ensures ∙ simp length-set c.lo
 
 pub returns-then-ty-n : goal.returns-then-ty-n
 returns-then-ty-n c =
-    let all = laws.words_end c.loop-x.invariant.0 c.find-end.ensures c.type_word.ensures c.x-1.given.1 c.keep_word.ensures c.if-end-text.true in
+    let all = laws.words_end c.loop-x.invariant.0 c.find-end.ensures c.in-Is.ensures refl c.keep_word.ensures c.if-end-text.true in
     record { are = laws.all_many all c.if-ty-n.true }
 
 pub shape_of-ty : goal.shape_of-ty
@@ -57,5 +55,5 @@ shape_of-ty c = ap length c.keep_word.ensures ∙ simp length-set c.loop-x.invar
 
 pub returns : goal.returns
 returns c =
-    let all = laws.words_end c.loop-x.invariant.0 c.find-end.ensures c.type_word.ensures c.x-1.given.1 c.keep_word.ensures c.if-end-text.true in
+    let all = laws.words_end c.loop-x.invariant.0 c.find-end.ensures c.in-Is.ensures refl c.keep_word.ensures c.if-end-text.true in
     record { are = laws.all_fit all c.if-ty-n.false }

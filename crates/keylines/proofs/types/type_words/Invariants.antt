@@ -1,10 +1,7 @@
 -- `type_words` meets its contract: the line's words are those read, and then those of the text that is left; a word less is left each turn.
-use mathlib.Core.Path.{◌≡◌, refl, ap, ◌∙◌}
+use mathlib.Core.Path.{◌≡◌}
 use Prim.Native.Nat.{◌-◌}
-use native.Mathlib.Omega.{arith}
-use lib.ListN.{length, length-set}
-use borrow.Author.Rules.{rules}
-use Rattle.keylines.proofs.TextLaws.{not_end}
+use lib.ListN.{length}
 use Rattle.keylines.proofs.WordLaws as laws
 use Rattle.keylines.proofs.types.type_words.Given as goal
 
