@@ -7,7 +7,7 @@ use Rattle.format.specs.Answer.{Answer, ok, refused, NoBound}
 use Rattle.format.specs.Calls as calls
 use Rattle.format.specs.Calls.{Called}
 use Rattle.format.proofs.Ranges.{strinc_tight, spans, prefixes, key_left}
-use Rattle.tuple.specs.Numbers.{length_of, encoded_of, ends_of, ends, Writes, Bounds, Numbered}
+use Rattle.tuple.specs.Numbers.{length_of, encoded_of, ends_of, ends, Writes, Numbered}
 use Rattle.tuple.specs.Ranges.{TightCall, ExactCall, PrefixCall}
 use Rattle.tuple.specs.declared.answers.Length.{Length}
 use Rattle.tuple.specs.declared.answers.Encoded.{Encoded}

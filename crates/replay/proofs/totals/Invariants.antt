@@ -3,7 +3,7 @@ use Rattle.std.proofs.Common.{◌-◌, ◌≤◌, rules}
 use Rattle.replay.proofs.totals.Given as goal
 
 abbrev pub invariant-loop-i : goal.invariant-loop-i
-invariant-loop-i l = i ≤ 38
+invariant-loop-i l = l.i ≤ 38
 
 abbrev pub decreases-loop-i : goal.decreases-loop-i
-decreases-loop-i l = 38 - i
+decreases-loop-i l = 38 - l.i

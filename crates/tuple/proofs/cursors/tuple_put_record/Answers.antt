@@ -1,7 +1,6 @@
 -- The cursor made of the two numbers, the library's step, and its answer as numbers: what each promises, one after the other.
 use Rattle.format.specs.Cursor as cursor
 use Rattle.tuple.proofs.StepLaws as laws
-use borrow.Author.Rules.{rules}
 use Rattle.tuple.proofs.cursors.tuple_put_record.Goals as goal
 
 pub returns : goal.returns

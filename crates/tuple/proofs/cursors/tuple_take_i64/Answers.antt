@@ -2,7 +2,6 @@
 use Rattle.format.specs.Cursor as cursor
 use Rattle.tuple.proofs.StepLaws as laws
 use Rattle.tuple.specs.StepNumbers as numbers
-use borrow.Author.Rules.{rules}
 use Rattle.tuple.proofs.cursors.tuple_take_i64.Goals as goal
 
 pub returns : goal.returns

@@ -1,7 +1,6 @@
 -- The library's call, and its answer as numbers: what each promises, one after the other.
 use mathlib.Core.Path.{ap, ◌∙◌}
 use Rattle.tuple.specs.Numbers.{number_of}
-use borrow.Author.Rules.{rules}
 use Rattle.tuple.proofs.fields.tuple_get_u64.Goals as goal
 
 pub returns : goal.returns

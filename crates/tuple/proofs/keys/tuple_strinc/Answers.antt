@@ -1,6 +1,5 @@
 -- The library's call, and its answer as numbers: what each promises, one after the other.
 use Rattle.tuple.proofs.Laws as laws
-use borrow.Author.Rules.{rules}
 use Rattle.tuple.proofs.keys.tuple_strinc.Goals as goal
 
 pub returns : goal.returns

@@ -1,6 +1,5 @@
 -- The reader's step on slice, place and flag, and its answer as numbers: what each promises, one after the other.
 use Rattle.tuple.proofs.StepLaws as laws
-use borrow.Author.Rules.{rules}
 use Rattle.tuple.proofs.reader.tuple_str_chars.Goals as goal
 
 pub returns : goal.returns

@@ -1,7 +1,6 @@
 -- The library's call, and its answer as numbers: what each promises, one after the other.
 use Rattle.tuple.proofs.Laws as laws
 use Rattle.tuple.proofs.Refusals.{refusals_numbered}
-use borrow.Author.Rules.{rules}
 use Rattle.tuple.proofs.sheets.tuple_encode_key.Goals as goal
 
 pub returns : goal.returns

@@ -1,5 +1,4 @@
 -- The two numbers of the cursor are those that the definition reads.
-use borrow.Author.Rules.{rules}
 use Rattle.tuple.proofs.steps.cursor_at.Goals as goal
 
 pub returns : goal.returns

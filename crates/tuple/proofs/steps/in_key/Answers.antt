@@ -1,5 +1,4 @@
 -- Case by case: the numbers of the step are those that its meaning has.
-use borrow.Author.Rules.{rules}
 use Rattle.tuple.proofs.steps.in_key.Goals as goal
 
 pub returns : goal.returns

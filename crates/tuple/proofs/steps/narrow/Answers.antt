@@ -1,6 +1,5 @@
 -- A depth from 256 on is 256, as the definition reads it; below, the cast keeps it.
 use Rattle.tuple.proofs.StepLaws.{cursor_of, deep_less, deep_more}
-use borrow.Author.Rules.{rules}
 use Rattle.tuple.proofs.steps.narrow.Goals as goal
 
 pub returns-then-depth-lt256 : goal.returns-then-depth-lt256

@@ -1,6 +1,5 @@
 -- Case by case: the numbers of the step are those that its meaning has.
 use Rattle.tuple.proofs.StepLaws as laws
-use borrow.Author.Rules.{rules}
 use Rattle.tuple.proofs.steps.of_opening.Goals as goal
 
 pub returns-then-answer-eq0 : goal.returns-then-answer-eq0

@@ -1,6 +1,0 @@
--- Case by case: the numbers of the answer are those that its meaning has.
-use borrow.Author.Rules.{rules}
-use Rattle.tuple.proofs.answers.of_compared.Goals as goal
-
-pub returns-in-Refused : goal.returns-in-Refused
-returns-in-Refused c = rw c.answer-1.given.1 c.no_order.ensures
