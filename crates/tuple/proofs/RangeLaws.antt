@@ -63,8 +63,8 @@ bounded_no (refused n d) r e q =
 
 pub prefix_call_lem : PrefixCall
 prefix_call_lem = record {
-  exact = λ ty words pool s lower upper r lower' upper' hp hs b z.
+  exact = λ ty words pool s lower upper r low high hp hs b z.
       let a = bounded_ok _ r b.answer (starts_numbered.starting_with ty words pool s lower upper) z in
       rw (b.left_lower, b.left_upper) (prefixes.exact ty words pool s lower upper (ends r.lower r.upper) hp hs a);
-  bounded = λ ty words pool s lower upper r lower' upper' b z. prefixes.bounded ty words pool s lower upper r.detail (bounded_no _ r b.answer z);
+  bounded = λ ty words pool s lower upper r low high b z. prefixes.bounded ty words pool s lower upper r.detail (bounded_no _ r b.answer z);
 }

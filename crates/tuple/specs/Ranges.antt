@@ -30,6 +30,6 @@ pub record ExactCall : Type 0 where
 -- where tuple_starting_with's refusal is 0, between the first `lower` and the first `upper` bytes of its two buffers lie exactly the keys (of ExactCall) whose next
 -- field begins with s, and the upper end is the least; and its refusal is never 19
 pub record PrefixCall : Type 0 where
-  pub exact : (ty words pool s lower upper : List ℕ) (r : Ends) (lower' upper' : List ℕ) → Held words pool → ByteString s
-      → Bounds (prefix_call ty words pool s lower upper) r lower' upper' → r.refusal ≡ 0 → PrefixExact ty words pool s (take r.lower lower') (take r.upper upper')
-  pub bounded : (ty words pool s lower upper : List ℕ) (r : Ends) (lower' upper' : List ℕ) → Bounds (prefix_call ty words pool s lower upper) r lower' upper' → r.refusal ≢ NoBound
+  pub exact : (ty words pool s lower upper : List ℕ) (r : Ends) (low high : List ℕ) → Held words pool → ByteString s
+      → Bounds (prefix_call ty words pool s lower upper) r low high → r.refusal ≡ 0 → PrefixExact ty words pool s (take r.lower low) (take r.upper high)
+  pub bounded : (ty words pool s lower upper : List ℕ) (r : Ends) (low high : List ℕ) → Bounds (prefix_call ty words pool s lower upper) r low high → r.refusal ≢ NoBound
