@@ -45,7 +45,7 @@ enum {
     TUPLE_BAD_TYPE = 15,             /* a type sheet that is not admitted */
     TUPLE_BAD_VALUE = 16,            /* a value sheet that is not admitted */
     TUPLE_NO_ROOM = 17,              /* a lent buffer is short; detail: the units needed */
-    TUPLE_NO_FIELD = 18,             /* no such field, none behind the first k, a count of fields over the type's, or not a record type (`7 5 ..` is none) */
+    TUPLE_NO_FIELD = 18,             /* no such field, none behind the first k, none that begins with bytes, a count over the type's, or not a record type (`7 5 ..` is none) */
     TUPLE_NO_BOUND = 19,             /* strinc: no byte string is above all that begin with the prefix */
     TUPLE_BAD_LINE = 20              /* the program keylist alone: a line that is no key */
 };
@@ -142,6 +142,15 @@ tuple_ends tuple_bounds(const uint32_t *type, size_t type_len, const uint8_t *ke
  * Refusals in order: 15; 16 of the three value sheets in turn, for the first also where it is no Record; 18 (no field behind the first k, or not a record type); the
  * values' (6, 8, 9, 10, 11, 12): the k fields, the lowest, the highest, each as a key's field; 17 (the lower end first). */
 tuple_ends tuple_span(const uint32_t *type, size_t type_len, const uint64_t *words, size_t words_len, const uint8_t *pool, size_t pool_len, const uint64_t *lowest_words, size_t lowest_words_len, const uint8_t *lowest_pool, size_t lowest_pool_len, const uint64_t *highest_words, size_t highest_words_len, const uint8_t *highest_pool, size_t highest_pool_len, uint8_t *lower, size_t lower_len, uint8_t *upper, size_t upper_len);
+/* the two ends of the keys whose next field begins with the bytes of start, as operators type the start of a name. words and pool: the first k fields as one Record, k
+ * being its count. A key of the record type lies at or above the lower end and below the upper one exactly when its first k fields are these and the next, a Str, a
+ * Bytes or an optional one of these, begins with the bytes of start, which a blank never does (theorem prefixes, crates/format/proofs/Ranges.antt; of this call
+ * theorem prefix_call_lem, crates/tuple/proofs/RangeLaws.antt). start is bytes and no sheet: it may be empty, end in 00 or within a character, and has no limit of length.
+ * The lower end is the k fields, the mark of the next and start with each 00 as 00 FF, without the end 00 of a field. The upper is strinc of the lower, so the least above
+ * all that begin with it, and not longer; there always is one, since the mark is below FF: no 19. Either may be longer than a key, so there is no 7.
+ * Refusals in order: 15; 16, also where the sheet is no Record; 18 (no field behind the first k, one of another kind, or not a record type), before any value is judged;
+ * the k values' (6, 8, 9, 10, 11, 12), each as a key's field; 17 (the lower end first). */
+tuple_ends tuple_starting_with(const uint32_t *type, size_t type_len, const uint64_t *words, size_t words_len, const uint8_t *pool, size_t pool_len, const uint8_t *start, size_t start_len, uint8_t *lower, size_t lower_len, uint8_t *upper, size_t upper_len);
 /* puts a new value into a field, counted from 0, of the key in the buffer's first `used` bytes. length: the new used length; bytes past it keep what they held.
  * Refusals in order: 15, 18, 17 (used over the buffer), decode_key's, 16, encode_key's of the changed record with 7, 17. */
 tuple_length tuple_replace(const uint32_t *type, size_t type_len, uint8_t *buffer, size_t buffer_len, size_t used, size_t field, const uint64_t *words, size_t words_len, const uint8_t *pool, size_t pool_len);

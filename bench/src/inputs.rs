@@ -1,4 +1,5 @@
-//! What is timed: types with values of them, all records, so that every call takes them; a span takes those with a second field.
+//! What is timed: types with values of them, all records, so that every call takes them; a span takes those with a second field, and what begins with some
+//! bytes has inputs of its own.
 
 use fjord_schema::id::SEQUENCE_BITS;
 
@@ -92,6 +93,41 @@ pub fn all() -> Vec<Input> {
     words.extend([1, 7]);
     list.push(Input { name: "200 nested records", ty, values: vec![(words, vec![])] });
     list
+}
+
+/// What names begin with, and a field before: a beginning takes these alone, the second field as the bytes that it asks for.
+pub fn beginnings() -> Vec<Input> {
+    let tag = |i: u64| [b'T', b'0', 0x0A, 0x00, i as u8 + 1];
+    // a tank's tag, and the first letters of a colour's name
+    let letters = ["c", "cy", "cyan ", "ma", "re", "ver", "\u{E9}", "aquama"];
+    let names = (0..64u64).map(|i| {
+        let name = letters[i as usize % letters.len()];
+        (vec![5, 2, 3, 5, 2, name.len() as u64], [&tag(i), name.as_bytes()].concat())
+    });
+    let names = Input { name: "colour names", ty: vec![5, 2, 3, 2], values: names.collect() };
+
+    // recipe, the first letters of an ingredient, its amount, and one of 90 steps
+    let mut ty = vec![5, 4, 4, 9, 2, 1];
+    alternatives(&mut ty);
+    let lines = (0..90).map(|i| {
+        let mut words = vec![5, 4, 4, (9 << SEQUENCE_BITS) + 77, 2, 6, 1, 250_000 + i];
+        let mut pool = b"sodium".to_vec();
+        alternative(i, &mut words, &mut pool);
+        (words, pool)
+    });
+    let lines = Input { name: "recipe lines by name", ty, values: lines.collect() };
+
+    let behind_tag = |name: &'static str, start: Vec<u8>| {
+        let values = vec![(vec![5, 2, 3, 5, 3, start.len() as u64], [&tag(0), &start[..]].concat())];
+        Input { name, ty: vec![5, 2, 3, 3], values }
+    };
+    let byte = |i: usize| (i * 31 % 255) as u8 + 1;
+    vec![
+        names,
+        lines,
+        behind_tag("1,000 bytes", (0..1_000).map(byte).collect()),
+        behind_tag("1,000 bytes, 100 of them 0", (0..1_000).map(|i| if i % 10 == 0 { 0 } else { byte(i) }).collect()),
+    ]
 }
 
 /// One of ninety Ints, by its place from 1: what an alternative more costs the search.

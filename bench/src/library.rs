@@ -51,6 +51,7 @@ unsafe extern "C" {
     fn tuple_strinc(prefix: *const u8, prefix_len: usize, out: *mut u8, out_len: usize) -> Length;
     fn tuple_bounds(ty: *const u32, ty_len: usize, key: *const u8, key_len: usize, k: usize, lower: *mut u8, lower_len: usize, upper: *mut u8, upper_len: usize) -> Ends;
     fn tuple_span(ty: *const u32, ty_len: usize, words: *const u64, words_len: usize, pool: *const u8, pool_len: usize, lowest_words: *const u64, lowest_words_len: usize, lowest_pool: *const u8, lowest_pool_len: usize, highest_words: *const u64, highest_words_len: usize, highest_pool: *const u8, highest_pool_len: usize, lower: *mut u8, lower_len: usize, upper: *mut u8, upper_len: usize) -> Ends;
+    fn tuple_starting_with(ty: *const u32, ty_len: usize, words: *const u64, words_len: usize, pool: *const u8, pool_len: usize, start: *const u8, start_len: usize, lower: *mut u8, lower_len: usize, upper: *mut u8, upper_len: usize) -> Ends;
     fn tuple_replace(ty: *const u32, ty_len: usize, buffer: *mut u8, buffer_len: usize, used: usize, field: usize, words: *const u64, words_len: usize, pool: *const u8, pool_len: usize) -> Length;
 }
 
@@ -109,6 +110,16 @@ pub fn span(ty: &[u32], first: &Given, lowest: &Given, highest: &Given, lower: &
             ty.as_ptr(), ty.len(), first.0.as_ptr(), first.0.len(), first.1.as_ptr(), first.1.len(),
             lowest.0.as_ptr(), lowest.0.len(), lowest.1.as_ptr(), lowest.1.len(),
             highest.0.as_ptr(), highest.0.len(), highest.1.as_ptr(), highest.1.len(),
+            lower.as_mut_ptr(), lower.len(), upper.as_mut_ptr(), upper.len(),
+        )
+    }
+}
+
+#[rustfmt::skip]
+pub fn starting_with(ty: &[u32], first: &Given, start: &[u8], lower: &mut [u8], upper: &mut [u8]) -> Ends {
+    unsafe {
+        tuple_starting_with(
+            ty.as_ptr(), ty.len(), first.0.as_ptr(), first.0.len(), first.1.as_ptr(), first.1.len(), start.as_ptr(), start.len(),
             lower.as_mut_ptr(), lower.len(), upper.as_mut_ptr(), upper.len(),
         )
     }

@@ -3,8 +3,9 @@
 //! The library is given sheets, which each call admits, and buffers lent once, which decoding fills. The original is given its own types and values, built
 //! before, and allocates what it answers; the time to free that counts. The third time is the original's with what the library's includes: its sheets
 //! admitted to types and values first, a decoded value written to a sheet in buffers lent once. Bounds and replacement are the original's decode, change and
-//! encode, a span is two of its encodes. The argument `growth` shows how time grows with the size of a value instead, `counts` the instructions by callgrind,
-//! `dose` the alternatives of a union by their places in place of the inputs.
+//! encode, a span is two of its encodes, what begins with some bytes one of them, `put_str` or `put_bytes` less the last byte, and strinc. The argument
+//! `growth` shows how time grows with the size of a value instead, `counts` the instructions by callgrind, `dose` the alternatives of a union by their places
+//! in place of the inputs.
 
 mod clock;
 mod counts;
@@ -21,7 +22,8 @@ use inputs::Input;
 use sheet::{admit_type, admit_value, write_sheet};
 use std::hint::black_box;
 
-const CALLS: [&str; 9] = ["encode_key", "decode_key", "check_key", "skip", "compare", "strinc", "bounds", "span", "replace"];
+const CALLS: [&str; 10] =
+    ["encode_key", "decode_key", "check_key", "skip", "compare", "strinc", "bounds", "span", "starting_with", "replace"];
 
 fn main() {
     let wanted: Vec<String> = std::env::args().skip(1).collect();
@@ -37,12 +39,15 @@ fn run(wanted: &[String]) {
     {
         return counts::run(words);
     }
-    let inputs = if wanted.iter().any(|word| word == "dose") { inputs::doses() } else { inputs::all() };
+    let (inputs, beginnings) = match wanted.iter().any(|word| word == "dose") {
+        true => (inputs::doses(), vec![]),
+        false => (inputs::all(), inputs::beginnings()),
+    };
     if !counts::inside() {
         println!("| call | input | key bytes | Rust ns | ours ns | ours / Rust | Rust from sheets ns | ours / that |\n|-|-|-|-|-|-|-|-|");
     }
     for call in CALLS {
-        for input in &inputs {
+        for input in if call == "starting_with" { &beginnings } else { &inputs } {
             let name = format!("{call} {}", input.name);
             let takes = call != "span" || input.ty[1] > 1;
             if takes && (wanted.is_empty() || wanted.iter().any(|word| name.contains(word.as_str()))) {
@@ -80,10 +85,15 @@ impl Case {
         let key = tuple::encode_key(ty, &value).expect("a value of the type");
         let Value::Record(fields) = &value else { unreachable!("a record") };
         let first_value = fields[0].1.clone();
-        let mut first = (Vec::new(), Vec::new());
-        write_sheet(&first_value, &mut first.0, &mut first.1);
+        let first = sheet_of(&first_value);
         Case { sheet: sheet.clone(), value, key, first, first_value }
     }
+}
+
+fn sheet_of(value: &Value) -> (Vec<u64>, Vec<u8>) {
+    let mut sheet = (Vec::new(), Vec::new());
+    write_sheet(value, &mut sheet.0, &mut sheet.1);
+    sheet
 }
 
 const ROOM: usize = 1 << 18;
@@ -119,6 +129,7 @@ impl<'a> Row<'a> {
             "strinc" => self.strinc(),
             "bounds" => self.bounds(),
             "span" => self.span(),
+            "starting_with" => self.starting_with(),
             _ => self.replace(),
         }
     }
@@ -250,6 +261,26 @@ impl<'a> Row<'a> {
         clock::medians([&mut ours, &mut rust, &mut sheets], cases.len())
     }
 
+    /// Behind the first field, what begins with the bytes of the second.
+    fn starting_with(&mut self) -> [f64; 3] {
+        let Row { sheet, ty, cases, out, more, .. } = self;
+        let firsts: Vec<Value> = cases.iter().map(|case| record_of(&case.first_value)).collect();
+        let sheets: Vec<(Vec<u64>, Vec<u8>)> = firsts.iter().map(sheet_of).collect();
+        let starts: Vec<&Value> = cases.iter().map(|case| &fields(&case.value)[1].1).collect();
+        for i in 0..cases.len() {
+            let answer = library::starting_with(sheet, &sheets[i], bytes_of(starts[i]), out, more);
+            let ends = original_starting_with(ty, &firsts[i], starts[i]);
+            assert_eq!((&out[..answer.lower as usize], &more[..answer.upper as usize]), (&ends.0[..], &ends.1[..]));
+        }
+        let mut ours = |i: usize| _ = black_box(library::starting_with(sheet, &sheets[i], bytes_of(starts[i]), out, more));
+        let mut rust = |i: usize| _ = black_box(original_starting_with(ty, &firsts[i], starts[i]));
+        let mut from_sheets = |i: usize| {
+            let (ty, first) = (admit_type(sheet).expect("a type"), admit_value(&sheets[i].0, &sheets[i].1).expect("a value"));
+            _ = black_box(original_starting_with(&ty, &first, starts[i]));
+        };
+        clock::medians([&mut ours, &mut rust, &mut from_sheets], cases.len())
+    }
+
     /// The first field by itself, so that the key stays.
     fn replace(&mut self) -> [f64; 3] {
         let Row { sheet, ty, cases, interner, .. } = self;
@@ -278,13 +309,20 @@ struct Span {
 
 impl Span {
     fn new(first: &Value, lowest: &Value, highest: &Value) -> Span {
-        let values = [Value::Record([(String::new(), first.clone())].into()), lowest.clone(), highest.clone()];
-        let sheets = values.each_ref().map(|value| {
-            let mut sheet = (Vec::new(), Vec::new());
-            write_sheet(value, &mut sheet.0, &mut sheet.1);
-            sheet
-        });
-        Span { sheets, values }
+        let values = [record_of(first), lowest.clone(), highest.clone()];
+        Span { sheets: values.each_ref().map(sheet_of), values }
+    }
+}
+
+fn record_of(field: &Value) -> Value {
+    Value::Record([(String::new(), field.clone())].into())
+}
+
+fn bytes_of(value: &Value) -> &[u8] {
+    match value {
+        Value::Str(text) => text.as_bytes(),
+        Value::Bytes(payload) => payload,
+        _ => unreachable!("a Str or Bytes"),
     }
 }
 
@@ -293,20 +331,34 @@ fn fields(value: &Value) -> &[(String, Value)] {
     fields
 }
 
+/// Values one behind the other under the types of the first fields.
+fn bare<'v>(ty: &PredicateTy, values: impl Iterator<Item = &'v Value>) -> Vec<u8> {
+    let PredicateTy::Record(types) = ty else { unreachable!("a record") };
+    let mut bytes = Vec::new();
+    let mut encoder = TupleEncoder::new(&mut bytes);
+    for ((_, ty), value) in types.iter().zip(values) {
+        tuple::encode_typed_at(&mut encoder, ty, value).expect("a value of the type");
+    }
+    bytes
+}
+
 /// Two encodes: the first values and the lowest; the first values, the highest and FF.
 fn original_span(ty: &PredicateTy, [first, lowest, highest]: &[Value; 3]) -> (Vec<u8>, Vec<u8>) {
-    let PredicateTy::Record(types) = ty else { unreachable!("a record") };
-    let end = |next: &Value| {
-        let mut end = Vec::new();
-        let mut encoder = TupleEncoder::new(&mut end);
-        let values = fields(first).iter().map(|(_, value)| value).chain([next]);
-        for ((_, ty), value) in types.iter().zip(values) {
-            tuple::encode_typed_at(&mut encoder, ty, value).expect("a value of the type");
-        }
-        end
-    };
+    let end = |next: &Value| bare(ty, fields(first).iter().map(|(_, value)| value).chain([next]));
     let (lower, mut upper) = (end(lowest), end(highest));
     upper.push(0xFF);
+    (lower, upper)
+}
+
+/// The closest that the original comes: one encode of the first values, the run of the next less its last byte, and strinc of that.
+fn original_starting_with(ty: &PredicateTy, first: &Value, start: &Value) -> (Vec<u8>, Vec<u8>) {
+    let mut lower = bare(ty, fields(first).iter().map(|(_, value)| value));
+    match start {
+        Value::Str(text) => tuple::put_str(&mut lower, text),
+        other => tuple::put_bytes(&mut lower, bytes_of(other)),
+    }
+    lower.pop();
+    let upper = tuple::strinc(&lower).expect("a mark is below FF");
     (lower, upper)
 }
 

@@ -178,6 +178,10 @@ unsafe extern "C" {
         highest_words: *const u64, highest_words_len: usize, highest_pool: *const u8, highest_pool_len: usize,
         lower: *mut u8, lower_len: usize, upper: *mut u8, upper_len: usize
     ) -> Ends;
+    fn tuple_starting_with(
+        ty: *const u32, ty_len: usize, words: *const u64, words_len: usize, pool: *const u8, pool_len: usize, start: *const u8, start_len: usize,
+        lower: *mut u8, lower_len: usize, upper: *mut u8, upper_len: usize
+    ) -> Ends;
     fn tuple_replace(ty: *const u32, ty_len: usize, buffer: *mut u8, buffer_len: usize, used: usize, field: usize, words: *const u64, words_len: usize, pool: *const u8, pool_len: usize) -> Length;
     fn tuple_get_i64(bytes: *const u8, bytes_len: usize) -> Number;
     fn tuple_get_u64(bytes: *const u8, bytes_len: usize) -> Number;
@@ -313,6 +317,27 @@ pub(crate) fn span(ty: &[u32], first: &ValueSheet, lowest: &ValueSheet, highest:
             highest_words.len(),
             highest_pool.as_ptr(),
             highest_pool.len(),
+            lower.as_mut_ptr(),
+            lower.len(),
+            upper.as_mut_ptr(),
+            upper.len(),
+        )
+    }
+}
+
+pub(crate) fn starting_with(ty: &[u32], first: &ValueSheet, start: &[u8], lower: &mut [u8], upper: &mut [u8]) -> Ends {
+    let (words, pool) = (first.words(), first.pool());
+    // SAFETY: each pointer and length are of one slice that lives through the call; `lower` and `upper`, which are written, are borrowed alone.
+    unsafe {
+        tuple_starting_with(
+            ty.as_ptr(),
+            ty.len(),
+            words.as_ptr(),
+            words.len(),
+            pool.as_ptr(),
+            pool.len(),
+            start.as_ptr(),
+            start.len(),
             lower.as_mut_ptr(),
             lower.len(),
             upper.as_mut_ptr(),
@@ -600,6 +625,72 @@ mod tests {
         ] {
             let due = (refusal, 0, 0, vec![0xEE; rooms.0], vec![0xEE; rooms.1]);
             assert_eq!(spanned(ty, first, lowest, highest, rooms), due, "{ty:?} {first:?} {lowest:?} {highest:?} {rooms:?}");
+        }
+    }
+
+    /// The ends of a beginning from this sheet into rooms of EE: refusal and detail, both lengths, both buffers.
+    fn started(
+        ty: &[u32],
+        (words, pool): (&[u64], &[u8]),
+        start: &[u8],
+        (lower, upper): (usize, usize),
+    ) -> ((u32, u64), u64, u64, Vec<u8>, Vec<u8>) {
+        let (mut lower, mut upper) = (vec![0xEE; lower], vec![0xEE; upper]);
+        let answer = starting_with(ty, &ValueSheet::of(words, pool), start, &mut lower, &mut upper);
+        (answer.said(), answer.lower, answer.upper, lower, upper)
+    }
+
+    #[test]
+    fn a_beginning_writes_the_beginnings_of_its_buffers() {
+        let (named, first) = ([5, 2, 3, 2], (&[5, 1, 3, 1][..], &[0x0A][..]));
+        let (lower, upper) = (vec![0x53, 0x0A, 0, 0x21, b'r', b'e'], vec![0x53, 0x0A, 0, 0x21, b'r', b'f']);
+        assert_eq!(started(&named, first, b"re", (6, 6)), ((0, 0), 6, 6, lower.clone(), upper.clone()));
+        let behind = |bytes: &[u8]| [bytes, &[0xEE; 2]].concat();
+        assert_eq!(started(&named, first, b"re", (8, 8)), ((0, 0), 6, 6, behind(&lower), behind(&upper)));
+        // the upper end may be much shorter, and needs no room for what it drops
+        let (lower, upper) = (vec![0x53, 0x0A, 0, 0x21, 0xFF, 0xFF, 0xFF], vec![0x53, 0x0A, 0, 0x22]);
+        assert_eq!(started(&named, first, b"\xFF\xFF\xFF", (7, 4)), ((0, 0), 7, 4, lower, upper));
+        assert_eq!(started(&[5, 1, 2], (&[5, 0], &[]), &[0], (3, 2)), ((0, 0), 3, 2, vec![0x21, 0, 0xFF], vec![0x21, 1]));
+    }
+
+    #[test]
+    fn a_refused_beginning_shows_no_lengths_and_writes_nothing() {
+        let (named, first) = ([5, 2, 3, 2], (&[5, 1, 3, 1][..], &[0x0A][..]));
+        let (name, none, number) = ([5, 1, 2], (&[5, 0][..], &[][..]), (&[5, 1, 1, 1][..], &[][..]));
+        for (ty, first, start, rooms, refusal) in [
+            // the type, then the sheet, then the field
+            (&[7, 7, 2][..], (&[9][..], &[][..]), &b"re"[..], (0, 0), (15, 0)),
+            (&[], first, b"re", (9, 9), (15, 0)),
+            (&[1], (&[2, 0], &[]), b"re", (9, 9), (16, 0)),
+            (&named, (&[3, 1], &[0x0A]), b"re", (9, 9), (16, 0)),
+            (&named, (&[5, 1, 3, 2], &[0x0A]), b"re", (9, 9), (16, 0)),
+            (&named, (&[5, 1, 3, 1, 0], &[0x0A]), b"re", (9, 9), (16, 0)),
+            (&named, (&[5, 1, 2, 1], &[0xC3]), b"re", (9, 9), (16, 0)),
+            (&[5, 1, 1], none, b"re", (9, 9), (18, 0)),
+            (&[5, 1, 4, 7], none, b"re", (9, 9), (18, 0)),
+            (&[5, 1, 5, 1, 2], none, b"re", (9, 9), (18, 0)),
+            (&[5, 1, 6, 1, 2, 2], none, b"re", (9, 9), (18, 0)),
+            (&[5, 1, 7, 1], none, b"re", (9, 9), (18, 0)),
+            (&[5, 1, 7, 5, 1, 2], none, b"re", (9, 9), (18, 0)),
+            (&[5, 0], none, b"re", (9, 9), (18, 0)),
+            (&[2], none, b"re", (9, 9), (18, 0)),
+            (&[7, 2], none, b"re", (9, 9), (18, 0)),
+            (&[7, 5, 1, 2], none, b"re", (9, 9), (18, 0)),
+            (&name, (&[5, 1, 2, 0], &[]), b"re", (9, 9), (18, 0)),
+            (&[5, 2, 3, 1], number, b"re", (0, 0), (18, 0)),
+            // the values, then the room
+            (&named, number, b"re", (0, 0), (11, 3)),
+            (&name, none, b"re", (2, 0), (17, 3)),
+            (&name, none, b"re", (2, 9), (17, 3)),
+            (&name, none, b"re", (3, 2), (17, 3)),
+            (&name, none, &[0], (2, 1), (17, 3)),
+            (&name, none, &[0], (3, 1), (17, 2)),
+            (&name, none, b"", (0, 9), (17, 1)),
+            (&named, first, b"\xFF\xFF\xFF", (6, 0), (17, 7)),
+            (&named, first, b"\xFF\xFF\xFF", (9, 3), (17, 4)),
+        ] {
+            let due = (refusal, 0, 0, vec![0xEE; rooms.0], vec![0xEE; rooms.1]);
+            assert_eq!(started(ty, first, start, rooms), due, "{ty:?} {first:?} {start:?} {rooms:?}");
         }
     }
 }

@@ -74,7 +74,12 @@ fn first_room(value: &ValueSheet) -> usize {
 /// Room that is enough for every sheet: a byte more for each zero in the pool. A number, a reference and a union's tag with its end have at most nine bytes, a
 /// blank, which is one word, at most two.
 fn whole_room(value: &ValueSheet) -> usize {
-    first_room(value) + value.pool().iter().filter(|byte| **byte == 0).count()
+    first_room(value) + zeros(value.pool())
+}
+
+/// How many of the bytes are zeros, each of which is written as two.
+fn zeros(bytes: &[u8]) -> usize {
+    bytes.iter().filter(|byte| **byte == 0).count()
 }
 
 /// Encodes a value under its type. A record at the top is a group, as it is within a record.
@@ -272,11 +277,7 @@ pub fn above_field(key_through_field: &[u8]) -> Vec<u8> {
 /// ```
 pub fn bounds(ty: &Type, key: &[u8], k: usize) -> Result<Range<Vec<u8>>, Refusal> {
     // The ends are a part of the key, and that with one byte more.
-    let (mut lower, mut upper) = (vec![0; key.len()], vec![0; key.len() + 1]);
-    let answer = ffi::bounds(&ty.sheet(), key, k, &mut lower, &mut upper).accepted()?;
-    lower.truncate(answer.lower as usize);
-    upper.truncate(answer.upper as usize);
-    Ok(lower..upper)
+    room::ends(key.len(), key.len() + 1, |lower, upper| ffi::bounds(&ty.sheet(), key, k, lower, upper))
 }
 
 /// The range of a span on the field behind the first `k`, `k` being how many are given. Of the keys of a record type it holds exactly those whose first `k`
@@ -310,12 +311,51 @@ pub fn bounds(ty: &Type, key: &[u8], k: usize) -> Result<Range<Vec<u8>>, Refusal
 pub fn span(ty: &Type, first: &[Value], lowest: &Value, highest: &Value) -> Result<Range<Vec<u8>>, Refusal> {
     let (first, lowest, highest) = (ValueSheet::record(first), lowest.sheet(), highest.sheet());
     // The first fields stand bare, so that the room for their record's two words is the FF's.
-    let room = |next| vec![0; whole_room(&first) + whole_room(next)];
-    let (mut lower, mut upper) = (room(&lowest), room(&highest));
-    let answer = ffi::span(&ty.sheet(), &first, &lowest, &highest, &mut lower, &mut upper).accepted()?;
-    lower.truncate(answer.lower as usize);
-    upper.truncate(answer.upper as usize);
-    Ok(lower..upper)
+    let room = |next| whole_room(&first) + whole_room(next);
+    room::ends(room(&lowest), room(&highest), |lower, upper| ffi::span(&ty.sheet(), &first, &lowest, &highest, lower, upper))
+}
+
+/// The range of the names that begin with these bytes, as an operator types the start of a colour name. The name is the field behind the first `k`, `k` being
+/// how many are given: a Str or a Bytes, optional or not. Of the keys of a record type the range holds exactly those whose first `k` fields are these and whose
+/// next begins with the bytes of `start` (theorem `prefixes` of crate `format`). Every name begins with the empty start; [`Value::Null`] never does.
+///
+/// The start is bytes: it may end within a character or in a zero byte, and has no limit of length. The upper end is [`strinc`] of the lower, which always is
+/// one, so that [`BTreeMap::range`] takes every range.
+///
+/// Refusals: 15, 16, 18 where the field behind the first `k` is of another kind or there is none, then those of [`encode_typed`] for each of the first `k`.
+/// There is no 7, since an end may be longer than a key, and no 19.
+///
+/// ```
+/// use std::collections::BTreeMap;
+/// use tuple::{Refusal, Type, Value, encode_key, starting_with};
+///
+/// // the colour names of tank 0A, one of them a blank
+/// let (names, tank) = (Type::record([Type::Bytes, Type::optional(Type::Str)]), Value::from(b"\x0A"));
+/// let mut store = BTreeMap::new();
+/// for name in [Value::Null, Value::from("cyan"), Value::from("cyan blue"), Value::from("écru")] {
+///     store.insert(encode_key(&names, &Value::record([tank.clone(), name.clone()]))?, name);
+/// }
+/// let found = |start: &[u8]| -> Result<Vec<Value>, Refusal> {
+///     Ok(store.range(starting_with(&names, &[tank.clone()], start)?).map(|(_, name)| name.clone()).collect())
+/// };
+/// assert_eq!(found(b"cyan")?, ["cyan", "cyan blue"].map(Value::from));
+/// assert_eq!(found(b"\xC3")?, ["écru"].map(Value::from)); // half a character
+/// assert_eq!(found(b"")?.len(), 3); // every name, and no blank
+///
+/// let range = starting_with(&names, &[tank.clone()], b"cy")?;
+/// assert_eq!(range, vec![0x53, 0x0A, 0x00, 0x21, b'c', b'y']..vec![0x53, 0x0A, 0x00, 0x21, b'c', b'z']);
+///
+/// // a number begins with nothing
+/// assert_eq!(starting_with(&Type::record([Type::Int]), &[], b""), Err(Refusal::NoField));
+/// # Ok::<(), Refusal>(())
+/// ```
+///
+/// [`BTreeMap::range`]: std::collections::BTreeMap::range
+pub fn starting_with(ty: &Type, first: &[Value], start: &[u8]) -> Result<Range<Vec<u8>>, Refusal> {
+    let first = ValueSheet::record(first);
+    // The first fields stand bare, so that the room for their record's two words is the mark's.
+    let room = whole_room(&first) + start.len() + zeros(start);
+    room::ends(room, room, |lower, upper| ffi::starting_with(&ty.sheet(), &first, start, lower, upper))
 }
 
 /// Puts a new value into a field of a record's key, counted from 0. The key is then the one that [`encode_key`] writes for the changed record. A refused

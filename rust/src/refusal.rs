@@ -70,7 +70,7 @@ pub enum Refusal {
         /// the units needed
         needed: usize,
     },
-    /// 18: no such field, none behind the first k, a count of fields over the type's, or not a record type.
+    /// 18: no such field, none behind the first k, none that begins with bytes, a count of fields over the type's, or not a record type.
     NoField,
     /// 19: no string is above all that begin with the prefix.
     NoBound,

@@ -1,8 +1,9 @@
 //! Buffers that grow: where a call answers NoRoom, it is given the units needed and called again.
 
-use crate::ffi::{Answer, Encoded, Length, Sheet};
+use crate::ffi::{Answer, Encoded, Ends, Length, Sheet};
 use crate::refusal::Refusal;
 use crate::sheet::Value;
+use std::ops::Range;
 
 /// Lends the bytes of `out` with `first` more behind them to a call, whose answer is the new length. A refused call leaves `out` as it was.
 pub(crate) fn grown(out: &mut Vec<u8>, first: usize, mut call: impl FnMut(&mut [u8]) -> Length) -> Result<(), Refusal> {
@@ -40,6 +41,15 @@ pub(crate) fn counted(first: usize, mut call: impl FnMut(&mut [u8]) -> Encoded) 
         answer.written()
     })?;
     Ok((out, zeros))
+}
+
+/// The two ends that a call writes into rooms which are enough for them.
+pub(crate) fn ends(lower: usize, upper: usize, call: impl FnOnce(&mut [u8], &mut [u8]) -> Ends) -> Result<Range<Vec<u8>>, Refusal> {
+    let (mut lower, mut upper) = (vec![0; lower], vec![0; upper]);
+    let answer = call(&mut lower, &mut upper).accepted()?;
+    lower.truncate(answer.lower as usize);
+    upper.truncate(answer.upper as usize);
+    Ok(lower..upper)
 }
 
 /// What a decoding call answers with rooms for words and pool, and the values begun.

@@ -5,7 +5,9 @@ use std::cmp::Ordering;
 use std::hash::{DefaultHasher, Hash, Hasher};
 use std::slice;
 use std::thread;
-use tuple::{Refusal, Type, Value, bounds, check_key, compare, decode_key, decode_typed, encode_key, encode_typed, replace, span};
+use tuple::{
+    Refusal, Type, Value, bounds, check_key, compare, decode_key, decode_typed, encode_key, encode_typed, replace, span, starting_with,
+};
 
 const DEEP: usize = 1_000_000;
 
@@ -114,6 +116,24 @@ fn refused_span(value: &Value) {
     assert_eq!(span(&tank, slice::from_ref(value), &Value::Int(40), &Value::Int(60)), Err(Refusal::BadValue));
     assert_eq!(span(&tank, &first, value, &Value::Int(60)), Err(Refusal::BadValue));
     assert_eq!(span(&tank, &first, &Value::Int(40), value), Err(Refusal::BadValue));
+}
+
+#[test]
+fn a_beginning_refuses_them() {
+    for (group, ..) in TYPES {
+        on_a_small_stack(move || {
+            assert_eq!(starting_with(&nested(ADMITTED + 1, Type::Int, group), &[], b""), Err(Refusal::BadType));
+        });
+    }
+    for (group, ..) in VALUES {
+        on_a_small_stack(move || {
+            let tank = Type::record([Type::Bytes, Type::Int]);
+            for depth in [DEEP, ADMITTED + 1] {
+                let value = nested(depth, Value::Int(0), group);
+                assert_eq!(starting_with(&tank, slice::from_ref(&value), b""), Err(Refusal::BadValue));
+            }
+        });
+    }
 }
 
 #[test]

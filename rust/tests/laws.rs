@@ -2,12 +2,12 @@
 
 mod common;
 
-use common::{Random, count, zeros};
+use common::{Random, count, run, zeros};
 use std::borrow::Cow;
 use tuple::{
     Kind, Refusal, Type, Value, above_field, bounds, check_key, check_key_counted, compare, decode_key, decode_key_counted, decode_typed,
     decode_typed_counted, encode_key, encode_key_counted, encode_typed, encode_typed_counted, get_bytes, get_i64, get_str, get_u64,
-    put_bytes, put_fact_id, put_i64, put_str, put_u64, replace, skip, span, strinc,
+    put_bytes, put_fact_id, put_i64, put_str, put_u64, replace, skip, span, starting_with, strinc,
 };
 
 const CASES: usize = 20_000;
@@ -146,6 +146,63 @@ fn a_span_holds_the_keys_with_the_same_first_fields_and_the_next_within_it_alone
         seen.as_flattened().iter().all(|n| *n > CASES / 50) && upward > downward && downward > CASES / 50,
         "{seen:?} {upward} {downward}"
     );
+}
+
+/// The key of the first fields alone.
+fn key_of_first(types: &[Type], first: &[Value]) -> Vec<u8> {
+    encode_key(&Type::Record(types.to_vec()), &Value::Record(first.to_vec())).unwrap()
+}
+
+/// A record type, a value of it, and values near it with their keys, itself the last.
+fn neighbours(random: &mut Random) -> (Type, Value, Vec<(Value, Vec<u8>)>) {
+    let ty = random.record(3);
+    let value = random.value(&ty);
+    let near: Vec<Value> = (0..8).map(|_| random.near(&ty, &value)).chain([value.clone()]).collect();
+    let keyed = near.into_iter().map(|value| (value.clone(), encode_key(&ty, &value).unwrap())).collect();
+    (ty, value, keyed)
+}
+
+#[test]
+fn a_beginning_holds_the_keys_with_the_same_first_fields_and_the_next_that_begins_so_alone() {
+    let mut random = Random::new(12);
+    // keys within and without, by what the next field is: a Str, a Bytes; optional or not
+    let mut seen = [[0; 2]; 4];
+    let mut refused = 0;
+    for _ in 0..CASES / 5 {
+        let (ty, a, near) = neighbours(&mut random);
+        let Type::Record(types) = &ty else { unreachable!() };
+        for (k, next) in types.iter().enumerate() {
+            let first = &fields(&a)[..k];
+            let own = run(&fields(&a)[k]).unwrap_or_default();
+            let more = random.pick(&[&[][..], &[], &[0x00], &[0xC3], &[0xFF]]);
+            let start = [&own[..random.below(own.len() + 1)], more].concat();
+            let (kind, mark) = match next.kind() {
+                Kind::Str => (0, 0x21),
+                Kind::Bytes => (2, 0x53),
+                _ => {
+                    assert_eq!(starting_with(&ty, first, &start), Err(Refusal::NoField));
+                    refused += 1;
+                    continue;
+                }
+            };
+            let range = starting_with(&ty, first, &start).unwrap();
+            let mut low = key_of_first(&types[..k], first);
+            let place = low.len();
+            put_bytes(&mut low, &start);
+            low[place] = mark;
+            low.pop(); // the run's end
+            assert_eq!(range, low.clone()..strinc(&low).unwrap());
+
+            for (value, key) in &near {
+                let begins = run(&fields(value)[k]).is_some_and(|run| run.starts_with(&start));
+                let within = fields(value)[..k] == *first && begins;
+                assert_eq!(range.contains(key), within, "{value:?} {first:?} {start:?}");
+                seen[kind + usize::from(matches!(next, Type::Optional(_)))][usize::from(within)] += 1;
+            }
+        }
+        assert_eq!(starting_with(&ty, fields(&a), b""), Err(Refusal::NoField));
+    }
+    assert!(seen.as_flattened().iter().all(|n| *n > CASES / 100) && refused > CASES / 50, "{seen:?} {refused}");
 }
 
 #[test]

@@ -5,6 +5,7 @@ mod common;
 use common::nested;
 use tuple::{
     FactId, PredicateId, Type, Value, bounds, decode_typed_counted, encode_key, encode_typed, get_bytes, get_str, put_bytes, put_str, span,
+    starting_with,
 };
 
 /// A refusal as number and detail, or (0, 0).
@@ -145,6 +146,29 @@ fn spanning() {
     assert_eq!(spanned(&row, &[&zero, &seven], &seven, &text), (11, 4));
     assert_eq!(spanned(&row, &[&zero, &seven], &seven, &eight), (8, 8));
     assert_eq!(spanned(&row, &[&zero, &seven], &seven, &seven), (0, 0));
+}
+
+#[test]
+fn beginning() {
+    let (tank, named) = (Type::record([Type::Bytes, Type::Int]), Type::record([Type::Bytes, Type::Str]));
+    let (deeper, deep) = nested(321, Type::Int, Value::Int(0));
+    assert_eq!(said(starting_with(&deeper, std::slice::from_ref(&deep), b"re")), (15, 0)); // the type, then the values' sheet, then the field
+    assert_eq!(said(starting_with(&Type::optional(Type::optional(Type::Str)), std::slice::from_ref(&deep), b"re")), (15, 0));
+    assert_eq!(said(starting_with(&Type::Int, std::slice::from_ref(&deep), b"re")), (16, 0));
+    assert_eq!(said(starting_with(&tank, &[deep], b"re")), (16, 0));
+    assert_eq!(said(starting_with(&Type::Int, &[Value::Int(1)], b"re")), (18, 0));
+    assert_eq!(said(starting_with(&tank, &[Value::Int(1)], b"re")), (18, 0)); // the field's kind before the values
+    assert_eq!(said(starting_with(&named, &[Value::Int(1)], b"re")), (11, 3));
+    assert_eq!(said(starting_with(&named, &[Value::Int(1), Value::Int(1)], b"re")), (18, 0));
+
+    let fact = Type::Fact(PredicateId(7));
+    let row = Type::record([Type::Int, fact.clone(), fact, Type::optional(Type::Bytes)]);
+    let [seven, eight, nine] = [7, 8, 9].map(|predicate| Value::from(FactId::new(PredicateId(predicate), 1).unwrap()));
+    let started = |first: [&Value; 3]| said(starting_with(&row, &first.map(Clone::clone), b"re"));
+    assert_eq!(started([&Value::Null, &eight, &nine]), (11, 1)); // the values in order
+    assert_eq!(started([&Value::Int(0), &eight, &nine]), (8, 8));
+    assert_eq!(started([&Value::Int(0), &seven, &nine]), (8, 9));
+    assert_eq!(started([&Value::Int(0), &seven, &seven]), (0, 0));
 }
 
 #[test]

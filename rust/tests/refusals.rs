@@ -6,7 +6,7 @@ mod common;
 use common::nested;
 use tuple::{
     FactId, PredicateId, Refusal, Type, Value, bounds, check_key, check_key_counted, compare, decode_key, decode_key_counted, decode_typed,
-    encode_key, encode_typed, get_bytes, get_i64, get_str, get_u64, replace, skip, span, strinc,
+    encode_key, encode_typed, get_bytes, get_i64, get_str, get_u64, replace, skip, span, starting_with, strinc,
 };
 
 fn row<T: std::fmt::Debug>(answer: Result<T, Refusal>, number: u32, name: &str, detail: u64) {
@@ -96,6 +96,51 @@ fn no_such_field() {
     row(spanned(&Type::Int, &[]), 18, "NoField", 0);
     row(spanned(&Type::union([(1, Type::Int)]), &[]), 18, "NoField", 0);
     row(spanned(&Type::optional(Type::record([Type::Int])), &[]), 18, "NoField", 0);
+}
+
+#[test]
+fn no_field_that_begins_with_bytes() {
+    let (int, text, fact) = (Type::Int, Type::Str, Type::Fact(PredicateId(7)));
+    let (record, union) = (Type::record([Type::Str]), Type::union([(1, Type::Str)]));
+    for next in [&int, &fact, &record, &union] {
+        for next in [next.clone(), Type::optional(next.clone())] {
+            row(starting_with(&Type::record([next.clone()]), &[], b""), 18, "NoField", 0);
+            row(starting_with(&Type::record([text.clone(), next, text.clone()]), &[Value::from("")], b""), 18, "NoField", 0);
+        }
+    }
+    // none behind the last, and no record
+    let name = Type::record([text.clone()]);
+    row(starting_with(&name, &[Value::from("")], b""), 18, "NoField", 0);
+    row(starting_with(&name, &[Value::from(""), Value::from("")], b""), 18, "NoField", 0);
+    row(starting_with(&Type::record([]), &[], b""), 18, "NoField", 0);
+    for ty in [text.clone(), Type::Bytes, union, Type::optional(text), Type::optional(name)] {
+        row(starting_with(&ty, &[], b""), 18, "NoField", 0);
+    }
+}
+
+#[test]
+fn a_beginning_refuses_types_and_values_that_are_not_admitted() {
+    let (deep, value) = nested(321, Type::Int, Value::Int(0));
+    row(starting_with(&deep, &[], b""), 15, "BadType", 0);
+    row(starting_with(&Type::record([Type::Int, Type::Int]), std::slice::from_ref(&value), b""), 16, "BadValue", 0);
+}
+
+#[test]
+fn a_beginning_has_the_encoders_refusals_of_each_value_before_it() {
+    for (ty, good, bad, number, name, detail) in [
+        (Type::record([Type::Int]), Value::record([Value::Int(0)]), Value::record([]), 6, "BadRecord", 0),
+        (Type::Fact(PredicateId(7)), reference(7), reference(8), 8, "FactRefPredicate", 8),
+        (Type::Fact(PredicateId(7)), reference(7), reserved(7), 9, "ReservedFactId", 0),
+        (Type::union([(1, Type::Int)]), Value::union(1, Value::Int(0)), Value::union(2, Value::Int(0)), 10, "UnknownDiscriminant", 2),
+        (Type::Int, Value::Int(0), Value::Null, 11, "TypeMismatch", 1),
+        (Type::optional(Type::Int), Value::Null, Value::from(""), 11, "TypeMismatch", 1),
+        (Type::union([(1, Type::Int)]), Value::union(1, Value::Int(0)), Value::union(1, Value::Null), 12, "BadUnion", 1),
+    ] {
+        let named = Type::record([ty.clone(), ty, Type::Str]);
+        assert!(starting_with(&named, &[good.clone(), good.clone()], b"re").is_ok());
+        row(starting_with(&named, &[bad.clone(), good.clone()], b"re"), number, name, detail);
+        row(starting_with(&named, &[good, bad], b"re"), number, name, detail);
+    }
 }
 
 #[test]

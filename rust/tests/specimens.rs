@@ -6,7 +6,7 @@ use common::nested;
 use std::cmp::Ordering;
 use tuple::{
     FactId, PredicateId, Refusal, Type, Value, above_field, bounds, compare, decode_key, decode_typed, encode_key, encode_typed, replace,
-    span, strinc,
+    span, starting_with, strinc,
 };
 
 /// A specimen's bytes, from hexadecimal.
@@ -72,6 +72,18 @@ fn a_thread_with_256_kb_of_stack_is_enough_for_the_deepest() {
         let (ty, value) = nested(320, Type::Int, Value::Int(0));
         assert_eq!(encode_key(&ty, &value), Err(Refusal::BadRecord));
         assert_eq!(compare(&value, &value), Ok(Ordering::Equal));
+    };
+    std::thread::Builder::new().stack_size(256 << 10).spawn(calls).unwrap().join().unwrap();
+}
+
+#[test]
+fn a_thread_with_256_kb_of_stack_is_enough_for_the_deepest_before_a_name() {
+    let calls = || {
+        let (ty, value) = nested(257, Type::Int, Value::Int(1));
+        let (Type::Record(types), Value::Record(values)) = (&ty, &value) else { unreachable!() };
+        let named = Type::record([types[0].clone(), Type::Str]);
+        let key = encode_key(&ty, &value).unwrap();
+        assert_eq!(starting_with(&named, values, b"").unwrap().start, [&key[..], &[0x21]].concat());
     };
     std::thread::Builder::new().stack_size(256 << 10).spawn(calls).unwrap().join().unwrap();
 }

@@ -116,6 +116,38 @@ int main(void) {
         puts("span: the ends' bytes differ");
         wrong++;
     }
+    /* the names of this tank that begin with r FF, the tags that begin with 0A 00, and all tags; a refused call leaves every byte of both ends' buffers */
+    const uint32_t named[] = {5, 2, 3, 7, 2};
+    const uint64_t no_tag[] = {5, 1, 1, 7};
+    const uint8_t r[] = {'r', 0xFF};
+    ends("starting_with, tags", tuple_starting_with(tank, 4, no_field, 2, NULL, 0, tag, 2, out, 16, more, 16), 0, 0, 4, 3);
+    if (memcmp(out, key, 4) != 0 || memcmp(more, (const uint8_t[]){0x53, 0x0A, 0x01}, 3) != 0) {
+        puts("starting_with, tags: the ends' bytes differ");
+        wrong++;
+    }
+    ends("starting_with, nothing", tuple_starting_with(tank, 4, no_field, 2, NULL, 0, NULL, 0, out, 1, more, 1), 0, 0, 1, 1);
+    if (out[0] != 0x53 || more[0] != 0x54) {
+        puts("starting_with, nothing: the ends' bytes differ");
+        wrong++;
+    }
+    memset(out, 0xEE, 16);
+    memset(more, 0xEE, 16);
+    ends("starting_with", tuple_starting_with(named, 5, first, 4, tag, 2, r, 2, out, 16, more, 16), 0, 0, 8, 7);
+    ends("starting_with, no type", tuple_starting_with(named, 4, null, 0, NULL, 0, NULL, 0, out, 16, more, 16), TUPLE_BAD_TYPE, 0, 0, 0);
+    ends("starting_with, no record", tuple_starting_with(named, 5, words + 2, 2, tag, 2, NULL, 0, out, 16, more, 16), TUPLE_BAD_VALUE, 0, 0, 0);
+    ends("starting_with, no pool", tuple_starting_with(named, 5, first, 4, tag, 1, NULL, 0, out, 16, more, 16), TUPLE_BAD_VALUE, 0, 0, 0);
+    ends("starting_with, no field", tuple_starting_with(tank, 4, words, 6, tag, 2, NULL, 0, out, 16, more, 16), TUPLE_NO_FIELD, 0, 0, 0);
+    ends("starting_with, an Int", tuple_starting_with(tank, 4, no_tag, 4, NULL, 0, NULL, 0, out, 16, more, 16), TUPLE_NO_FIELD, 0, 0, 0);
+    ends("starting_with, no tag", tuple_starting_with(named, 5, no_tag, 4, NULL, 0, r, 2, NULL, 0, NULL, 0), TUPLE_TYPE_MISMATCH, 3, 0, 0);
+    ends("starting_with, no room", tuple_starting_with(named, 5, first, 4, tag, 2, r, 2, NULL, 0, NULL, 0), TUPLE_NO_ROOM, 8, 0, 0);
+    ends("starting_with, short", tuple_starting_with(named, 5, first, 4, tag, 2, tag, 1, out, 6, more, 16), TUPLE_NO_ROOM, 7, 0, 0);
+    ends("starting_with, short above", tuple_starting_with(named, 5, first, 4, tag, 2, tag, 2, out, 16, more, 7), TUPLE_NO_ROOM, 8, 0, 0);
+    const uint8_t from[] = {0x53, 0x0A, 0x00, 0xFF, 0x00, 0x21, 'r', 0xFF, 0xEE, 0xEE, 0xEE, 0xEE, 0xEE, 0xEE, 0xEE, 0xEE};
+    const uint8_t up_to[] = {0x53, 0x0A, 0x00, 0xFF, 0x00, 0x21, 's', 0xEE, 0xEE, 0xEE, 0xEE, 0xEE, 0xEE, 0xEE, 0xEE, 0xEE};
+    if (memcmp(out, from, 16) != 0 || memcmp(more, up_to, 16) != 0) {
+        puts("starting_with: the ends' bytes differ");
+        wrong++;
+    }
     memcpy(out, key, 7);
     length("replace", tuple_replace(tank, 4, out, 16, 7, 1, nine, 2, NULL, 0), 0, 0, 7);
     length("replace, null", tuple_replace(tank, 4, out, 16, 7, 1, null, 1, NULL, 0), TUPLE_TYPE_MISMATCH, 1, 0);

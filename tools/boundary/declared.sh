@@ -78,6 +78,11 @@ spans crates/tuple/src/keys.rt
 spans rust/src/lib.rs
 exact_call include/tuple.h
 exact_call crates/tuple/src/keys.rt
+prefixes include/tuple.h
+prefixes crates/tuple/src/keys.rt
+prefixes rust/src/lib.rs
+prefix_call_lem include/tuple.h
+prefix_call_lem crates/tuple/src/keys.rt
 scrolls include/tuple.h
 scrolls crates/tuple/src/reader.rt
 scrolls crates/chars/src/lib.rt

@@ -156,6 +156,24 @@ static void span(void) {
         refusal = tuple_span(now->type, now->type_len, sheet, n, NULL, 0, field, 2, NULL, 0, field, 2, NULL, 0, out, BYTES, more, BYTES).refusal;
     }
 }
+/* a Str behind all the record's fields, or in place of the last where the type has no word left; a union stands in a record of its own */
+static void starting_with(void) {
+    static uint32_t type[4100];
+    size_t top = now->type[0] == 5 ? 2 : 0, types = now->type_len - top, n = now->words_len - top;
+    uint32_t k = top ? now->type[1] : 1;
+    if (top && types + 3 > 4096) {
+        k--;
+        types--;
+        n -= 2;
+    }
+    type[0] = sheet[0] = 5;
+    type[1] = k + 1;
+    sheet[1] = k;
+    memcpy(type + 2, now->type + top, types * 4);
+    memcpy(sheet + 2, now->words + top, n * 8);
+    type[2 + types] = 2;
+    refusal = tuple_starting_with(type, types + 3, sheet, n + 2, now->pool, now->pool_len, now->key, now->key_len, out, BYTES, more, BYTES).refusal;
+}
 /* the new value is the record's first field again */
 static void replace(void) {
     memcpy(out, now->key, now->key_len);
@@ -176,8 +194,8 @@ static const struct {
     const char *name;
     void (*run)(void);
 } calls[] = {{"(an empty thread)", nothing}, {"encode_typed", encode_typed}, {"encode_key", encode_key}, {"decode_typed", decode_typed}, {"decode_key", decode_key}, {"check_key", check_key}, {"skip", skip},
-             {"compare", compare}, {"strinc", strinc}, {"above_field", above_field}, {"bounds", bounds}, {"span", span}, {"replace", replace}, {"get_i64", get_i64}, {"get_u64", get_u64}, {"get_str", get_str},
-             {"get_bytes", get_bytes}, {"put_i64", put_i64}, {"put_u64", put_u64}, {"put_str", put_str}, {"put_bytes", put_bytes}, {"put_fact_id", put_fact_id}};
+             {"compare", compare}, {"strinc", strinc}, {"above_field", above_field}, {"bounds", bounds}, {"span", span}, {"starting_with", starting_with}, {"replace", replace}, {"get_i64", get_i64},
+             {"get_u64", get_u64}, {"get_str", get_str}, {"get_bytes", get_bytes}, {"put_i64", put_i64}, {"put_u64", put_u64}, {"put_str", put_str}, {"put_bytes", put_bytes}, {"put_fact_id", put_fact_id}};
 
 static void *run(void *call) {
     calls[*(int *)call].run();

@@ -1,7 +1,7 @@
 #!/usr/bin/env python3
 """Whether the gate's program replay would see a wrong answer: alters answers in its list and has it find exactly those lines.
 
-usage: altered.py REPLAY [RUNS]     REPLAY is target/bin/replay, which `rt check replay` writes; 30 runs of about 1,950 lines each
+usage: altered.py REPLAY [RUNS]     REPLAY is crates/replay/out/replay, which `rt run` in crates/replay writes; 30 runs of about 1,950 lines each
 
 An answer's number is raised, lowered or made another; of a list an element is changed, added or dropped, a repetition's count changed, or all is dropped."""
 import os

@@ -18,7 +18,11 @@ for fault in "$@"; do
     export TUPLE_FAULT="$fault"
     run=caught replayed=caught
     # the families of spans stand last: those of no span need not come before them
-    case "$fault" in span-*) families=spans5,spans,members,limits ;; *) families= ;; esac
+    case "$fault" in
+        span-*) families=spans5,spans,members,limits ;;
+        start-*) families=starts5,starts,begun,limits ;;
+        *) families= ;;
+    esac
     report=$(target/release/differential --cases 200000 --seconds 5 ${families:+--family "$families"} 2>/dev/null) && run=-
     target/release/differential --replay "$list" >/dev/null 2>&1 && replayed=-
     printf '%-20s run: %-7s list: %-7s %s\n' "$fault" "$run" "$replayed" "$(echo "$report" | grep -m 1 ' = ' | cut -c1-110)"

@@ -42,7 +42,7 @@ ByteString l = Below 256 l
 abbrev pub Above : (p q : List ℕ) → Type 0
 Above p q = (s : List ℕ) → ByteString s → cmp_bytes (p ++ s) q ≡ Ordering.lt
 
--- of all byte strings above every byte string that begins with p, q is the least; strinc's end is (Ranges.StrincTight, theorem strinc-tight)
+-- of all byte strings above every byte string that begins with p, q is the least; strinc's end is (Ranges.StrincTight, theorem strinc_tight)
 pub record Least (p q : List ℕ) : Type 0 where
   pub bytes : ByteString q
   pub above : Above p q

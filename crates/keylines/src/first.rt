@@ -3,8 +3,8 @@ ghost use Rattle.std.specs.Prelude.{◌≤◌, length};
 ghost use Rattle.format.specs.TypeSheet.{max_type_words};
 ghost use Rattle.keylines.specs.Answers.{TypedRead, FirstRead};
 
+use crate::finding::find;
 use crate::pieces::Left;
-use crate::text::find;
 use crate::types::{Words, type_words};
 
 // The longest input that is read.

@@ -1,11 +1,11 @@
 // What keylist writes for its input: the type that its first line names, or why there is none; the rows of its key lines, in pieces.
 #![tactic(auto)]
 
+mod finding;
 mod first;
 mod keys;
 mod pieces;
 mod rows;
-mod text;
 mod types;
 
 pub use first::{First, MAX_INPUT, Reason, read_first};

@@ -3,9 +3,9 @@ ghost use Rattle.std.specs.Prelude.{◌≡◌, true, ◌*◌, ◌≤◌, length}
 ghost use Rattle.format.specs.TypeSheet.{is_some, type_of};
 ghost use Rattle.keylines.specs.Answers.{NoTypePut, KeyTold, LineAsked, LineTold, PieceAsked, PiecePut};
 
+use crate::finding::find;
 use crate::keys::{Key, pairs};
 use crate::rows::put_row;
-use crate::text::find;
 use decode::CheckedKey;
 
 // Room for the longest key: two digits of the input make a byte.

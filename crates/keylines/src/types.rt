@@ -3,7 +3,7 @@ ghost use Rattle.std.specs.Prelude.{◌≡◌, set};
 ghost use Rattle.format.specs.Keylist.{word_of};
 ghost use Rattle.keylines.specs.Answers.{word_is, WordsRead};
 
-use crate::text::find;
+use crate::finding::find;
 
 #[derive(Clone, Copy)]
 pub enum Word {

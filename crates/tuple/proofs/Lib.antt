@@ -3,5 +3,6 @@ pub mod Laws
 pub mod Refusals
 pub mod StepLaws
 pub mod ListLaws
+pub mod BeginningLaws
 pub mod RangeLaws
 pub mod ScrollLaws

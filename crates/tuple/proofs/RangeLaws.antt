@@ -3,16 +3,17 @@ use mathlib.Core.Path.{◌≡◌, ap}
 use mathlib.Core.List.{List}
 use Prim.Native.Nat.{ℕ}
 use native.Mathlib.Omega.{arith}
-use Rattle.format.specs.Answer.{Answer, ok, refused}
+use Rattle.format.specs.Answer.{Answer, ok, refused, NoBound}
 use Rattle.format.specs.Calls as calls
 use Rattle.format.specs.Calls.{Called}
-use Rattle.format.proofs.Ranges.{strinc_tight, spans, key_left}
+use Rattle.format.proofs.Ranges.{strinc_tight, spans, prefixes, key_left}
 use Rattle.tuple.specs.Numbers.{length_of, encoded_of, ends_of, ends, Writes, Numbered}
-use Rattle.tuple.specs.Ranges.{TightCall, ExactCall}
+use Rattle.tuple.specs.Ranges.{TightCall, ExactCall, PrefixCall}
 use Rattle.tuple.specs.declared.answers.Length.{Length}
 use Rattle.tuple.specs.declared.answers.Encoded.{Encoded}
 use Rattle.tuple.specs.declared.answers.Ends.{Ends}
 use Rattle.tuple.proofs.Refusals.{refusals_numbered}
+use Rattle.tuple.proofs.BeginningLaws.{starts_numbered}
 
 -- refusal 0 says that a call was accepted
 accepted : (c : Called ℕ) (r : Length) (left : List ℕ) → Writes c r left → Numbered c.answer → r.refusal ≡ 0 → c.answer ≡ ok r.length
@@ -50,4 +51,20 @@ exact_call = record {
       rw (b.left_lower, b.left_upper) (spans.exact ty words pool low_words low_pool high_words high_pool lower upper (ends r.lower r.upper) hp hl hh a);
   key_of = λ ty words pool out r left h e z.
       rw e.buffer (key_left ty words pool out r.length h (encoded_ok _ _ r e.answer (refusals_numbered.encode_key ty words pool out) z));
+}
+
+-- an answer with that refusal is that refusal
+bounded_no : (a : Answer calls.Ends) (r : Ends) → r ≡ ends_of a → r.refusal ≡ NoBound → a ≡ refused NoBound r.detail
+bounded_no (ok x) r e q = absurd (let f : r.refusal ≡ 0 = ap (λ (y : Ends). y.refusal) e in omega arith)
+bounded_no (refused n d) r e q =
+    let f : r.refusal ≡ n = ap (λ (y : Ends). y.refusal) e in
+    let g : r.detail ≡ d = ap (λ (y : Ends). y.detail) e in
+    cc
+
+pub prefix_call_lem : PrefixCall
+prefix_call_lem = record {
+  exact = λ ty words pool s lower upper r low high hp hs b z.
+      let a = bounded_ok _ r b.answer (starts_numbered.starting_with ty words pool s lower upper) z in
+      rw (b.left_lower, b.left_upper) (prefixes.exact ty words pool s lower upper (ends r.lower r.upper) hp hs a);
+  bounded = λ ty words pool s lower upper r low high b z. prefixes.bounded ty words pool s lower upper r.detail (bounded_no _ r b.answer z);
 }

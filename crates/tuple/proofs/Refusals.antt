@@ -33,14 +33,14 @@ use Rattle.format.specs.Chars as chars
 -- ---- steps
 
 -- a number that is written out
-listed : {n : ℕ} → T (ltb 0 n) → T (leb n last_refusal) → Listed n
+pub listed : {n : ℕ} → T (ltb 0 n) → T (leb n last_refusal) → Listed n
 listed low high = record { some = lit< low; known = lit≤ high }
 
-numbered_if : {A : Type 0} (b : Bool) (x y : Answer A) → Numbered x → Numbered y → Numbered (if b x y)
+pub numbered_if : {A : Type 0} (b : Bool) (x y : Answer A) → Numbered x → Numbered y → Numbered (if b x y)
 numbered_if true x y p q = p
 numbered_if false x y p q = q
 
-numbered_then : {A B : Type 0} (m : Answer A) (f : A → Answer B) → Numbered m → ((a : A) → Numbered (f a)) → Numbered (and_then m f)
+pub numbered_then : {A B : Type 0} (m : Answer A) (f : A → Answer B) → Numbered m → ((a : A) → Numbered (f a)) → Numbered (and_then m f)
 numbered_then (ok a) f p q = q a
 numbered_then (refused n d) f p q = p
 
@@ -235,7 +235,7 @@ mutual
   fitting (Ty.Union alts) depth v = kinds 6 v _ (fitting_union alts depth (number_in v) (payload_in v))
   fitting (Ty.Optional t) depth v = numbered_if (eqb (val_kind v) 0) fine (fits t depth v) tt (fitting t depth v)
 
-  fitting_all : (ts : Tys) (depth : ℕ) (vs : Vals) → Numbered (fits_all ts depth vs)
+  pub fitting_all : (ts : Tys) (depth : ℕ) (vs : Vals) → Numbered (fits_all ts depth vs)
   fitting_all Tys.NoTy depth Vals.NoVal = tt
   fitting_all Tys.NoTy depth (Vals.AddVal v vs) = listed tt tt
   fitting_all (Tys.AddTy t ts) depth Vals.NoVal = listed tt tt
@@ -306,7 +306,7 @@ skips key start escape = end_of_lem key (walk (suc (length (drop start key))) es
 
 -- ---- sheets and buffers
 
-typed : {A : Type 0} (t : Option Ty) (f : Ty → Answer A) → ((t : Ty) → Numbered (f t)) → Numbered (with_type t f)
+pub typed : {A : Type 0} (t : Option Ty) (f : Ty → Answer A) → ((t : Ty) → Numbered (f t)) → Numbered (with_type t f)
 typed (some t) f p = p t
 typed none f p = listed tt tt
 
@@ -342,7 +342,7 @@ bounded_if : (b : Bool) (x y : calls.Bounded) → Numbered x.answer → Numbered
 bounded_if true x y p q = p
 bounded_if false x y p q = q
 
-two_ends : (lower upper : List ℕ) (a : Answer TwoEnds) → Numbered a → Numbered (both_ends lower upper a).answer
+pub two_ends : (lower upper : List ℕ) (a : Answer TwoEnds) → Numbered a → Numbered (both_ends lower upper a).answer
 two_ends lower upper (ok x) p = bounded_if (ltb (length lower) (length x.low)) _ _ (listed tt tt) (bounded_if (ltb (length upper) (length x.high)) _ _ (listed tt tt) tt)
 two_ends lower upper (refused n d) p = p
 
@@ -362,7 +362,7 @@ keyed : {A : Type 0} (m : Decoded Val) (f : Vals → Answer A) → Decodes m →
 keyed (Decoded.got v r k) f p q = q (fields_in v)
 keyed (Decoded.bad n d k) f p q = p
 
-raises : (s : List ℕ) → Numbered (raised_or s)
+pub raises : (s : List ℕ) → Numbered (raised_or s)
 raises [] = listed tt tt
 raises (b ∷ bs) = tt
 
@@ -431,12 +431,12 @@ replaces ty buffer used field words pool =
     (λ t. fields_of t (field_of buffer used field words pool) (field_of_lem buffer used field words pool))
 
 -- the first k values' sheet
-recorded : {A : Type 0} (o : Option Val) (f : Vals → Answer A) → ((vs : Vals) → Numbered (f vs)) → Numbered (with_record o f)
+pub recorded : {A : Type 0} (o : Option Val) (f : Vals → Answer A) → ((vs : Vals) → Numbered (f vs)) → Numbered (with_record o f)
 recorded none f p = listed tt tt
 recorded (some v) f p = numbered_if (eqb (val_kind v) 5) _ _ (p (fields_in v)) (listed tt tt)
 
 -- the field behind them
-next_of : {A : Type 0} (t : Ty) (k : ℕ) (f : Tys → Ty → Answer A) → ((ts : Tys) (u : Ty) → Numbered (f ts u)) → Numbered (with_next t k f)
+pub next_of : {A : Type 0} (t : Ty) (k : ℕ) (f : Tys → Ty → Answer A) → ((ts : Tys) (u : Ty) → Numbered (f ts u)) → Numbered (with_next t k f)
 next_of t k f p = fields_of t _ (λ ts. numbered_if (ltb k (field_count ts)) _ _ (p (first_tys k ts) (field_type k ts)) (listed tt tt))
 
 spans_numbered : (ty words pool low_words low_pool high_words high_pool : List ℕ) → Numbered (span_for ty words pool low_words low_pool high_words high_pool)

@@ -7,7 +7,7 @@ use Rattle.format.specs.Calls as calls
 use Rattle.format.specs.Fields as fields
 use Rattle.format.specs.Fields.{Taken, Place, in_key, in_scratch, Payload}
 use Rattle.format.specs.Zeros.{zeros}
-use Rattle.format.specs.Spans.{span_call}
+use Rattle.format.specs.Spans.{span_call, prefix_call}
 use Rattle.decode.specs.declared.Decoded.{Decoded}
 use Rattle.decode.specs.declared.CheckedKey.{CheckedKey}
 use Rattle.decode.specs.Answers as decode
@@ -157,3 +157,7 @@ pub record RefusalsNumbered : Type 0 where
   pub put_str : (out : List ℕ) (at : ℕ) (text : List ℕ) → Numbered (fields.put_str_call out at text).answer
   pub put_bytes : (out : List ℕ) (at : ℕ) (payload : List ℕ) → Numbered (fields.put_bytes_call out at payload).answer
   pub put_fact_id : (out : List ℕ) (at raw : ℕ) → Numbered (fields.put_fact_id_call out at raw).answer
+
+-- and in the prefix call (proofs/BeginningLaws)
+pub record StartsNumbered : Type 0 where
+  pub starting_with : (ty words pool s lower upper : List ℕ) → Numbered (prefix_call ty words pool s lower upper).answer

@@ -1,7 +1,7 @@
-// Keys and sheets compared, passed over, bounded, spanned and changed.
+// Keys and sheets compared, passed over, bounded, spanned, looked for by a beginning and changed.
 ghost use Rattle.std.specs.Prelude.{◌≡◌};
 ghost use Rattle.format.specs.Calls.{skip_call, compare_call, strinc_call, above_field_call, bounds_call, replace_call};
-ghost use Rattle.format.specs.Spans.{span_call};
+ghost use Rattle.format.specs.Spans.{span_call, prefix_call};
 ghost use Rattle.tuple.specs.Numbers.{length_of, order_of, Writes, Bounds};
 
 use crate::answers;
@@ -64,6 +64,21 @@ pub fn tuple_span(
         lower,
         upper,
     ))
+}
+
+// Between the ends of an accepted call lie exactly the keys of the type whose first k fields are equal and whose next begins with the bytes of s, and the upper
+// end is the least: theorem prefix_call_lem, which has it from this contract and from theorem prefixes of format.
+pub fn tuple_starting_with(
+    ty: &[u32],
+    words: &[u64],
+    pool: &[u8],
+    s: &[u8],
+    lower: &mut [u8],
+    upper: &mut [u8],
+) -> Ends
+    ensures { Bounds (prefix_call ty.now words.now pool.now s.now lower.old upper.old) result lower.new upper.new }
+{
+    answers::of_bounded(key::starting_with(ty, words, pool, s, lower, upper))
 }
 
 pub fn tuple_replace(

@@ -1,7 +1,7 @@
-// Keys and sheets compared, passed over, bounded, spanned and changed, for C.
+// Keys and sheets compared, passed over, bounded, spanned, looked for by a beginning and changed, for C.
 ghost use Rattle.std.specs.Prelude.{◌≡◌};
 ghost use Rattle.format.specs.Calls.{skip_call, compare_call, strinc_call, above_field_call, bounds_call, replace_call};
-ghost use Rattle.format.specs.Spans.{span_call};
+ghost use Rattle.format.specs.Spans.{span_call, prefix_call};
 ghost use Rattle.tuple.specs.Numbers.{length_of, order_of, Writes, Bounds};
 
 use tuple::answers::{Ends, Length, Order};
@@ -77,6 +77,20 @@ pub extern "C" fn tuple_span(
         lower,
         upper,
     )
+}
+
+#[unsafe(no_mangle)]
+pub extern "C" fn tuple_starting_with(
+    ty: &[u32],
+    words: &[u64],
+    pool: &[u8],
+    s: &[u8],
+    lower: &mut [u8],
+    upper: &mut [u8],
+) -> Ends
+    ensures { Bounds (prefix_call ty.now words.now pool.now s.now lower.old upper.old) result lower.new upper.new }
+{
+    tuple::keys::tuple_starting_with(ty, words, pool, s, lower, upper)
 }
 
 #[unsafe(no_mangle)]

@@ -1,9 +1,10 @@
-//! A small generator of types and values: seeded, so that every run sees the same.
+//! A small generator of types and values, seeded, so that every run sees the same; and what several files of tests read and write.
 
 // each file of tests uses a part of it
 #![allow(dead_code)]
 
-use tuple::{FactId, PredicateId, Type, Value};
+use std::ops::Range;
+use tuple::{FactId, PredicateId, Refusal, Type, Value};
 
 pub struct Random(u64);
 
@@ -144,7 +145,41 @@ pub fn zeros(value: &Value) -> u64 {
     }
 }
 
+/// The bytes of a text, or the bytes.
+pub fn run(value: &Value) -> Option<&[u8]> {
+    match value {
+        Value::Str(text) => Some(text.as_bytes()),
+        Value::Bytes(bytes) => Some(bytes),
+        _ => None,
+    }
+}
+
 /// A value within so many records of one field each, and its type.
 pub fn nested(depth: usize, ty: Type, value: Value) -> (Type, Value) {
     (0..depth).fold((ty, value), |(ty, value), _| (Type::record([ty]), Value::record([value])))
+}
+
+/// Bytes from hexadecimal.
+pub fn hex(text: &str) -> Vec<u8> {
+    text.split_whitespace().map(|pair| u8::from_str_radix(pair, 16).unwrap()).collect()
+}
+
+/// Two ends from hexadecimal.
+pub fn ends(lower: &str, upper: &str) -> Result<Range<Vec<u8>>, Refusal> {
+    Ok(hex(lower)..hex(upper))
+}
+
+/// Every string of up to `most` of these bytes.
+pub fn strings(bytes: &[u8], most: usize) -> Vec<Vec<u8>> {
+    let mut all = vec![vec![]];
+    let mut from = 0;
+    for _ in 0..most {
+        let last = from..all.len();
+        from = all.len();
+        for at in last {
+            let longer = bytes.iter().map(|byte| [all[at].as_slice(), &[*byte]].concat());
+            all.extend(longer.collect::<Vec<_>>());
+        }
+    }
+    all
 }

@@ -1,11 +1,12 @@
 //! Bounds and replacement by skip: the field's bytes are found in the key, and the bytes behind them moved. A span by its values,
-//! each encoded alone.
+//! each encoded alone, or by its first values and a walk over the bytes that the next begins with.
 
 use crate::faults::{Fault, has};
 use crate::{Length, decode_value, given, lent, the_type, the_value};
 use fjord_encoding::tuple::{self, Value};
+use fjord_schema::schema::PredicateTy;
 use oracle::optional::Type;
-use oracle::refusal::{BAD_VALUE, KEY_TOO_LONG, NO_BOUND, NO_FIELD, NO_ROOM, Refusal, TYPE_MISMATCH};
+use oracle::refusal::{BAD_STRING, BAD_VALUE, KEY_TOO_LONG, NO_BOUND, NO_FIELD, NO_ROOM, Refusal, TYPE_MISMATCH};
 
 #[repr(C)]
 #[derive(Default)]
@@ -37,18 +38,23 @@ fn bounds(ty: &[u32], key: &[u8], k: usize, lower: &mut [u8], upper: &mut [u8]) 
     {
         above = end;
     }
-    if first.len() > lower.len() {
-        return Err((NO_ROOM, first.len() as u64));
+    write_ends(first, &above, lower, upper, Fault::BoundsHalf)
+}
+
+/// Both ends, where both have room. `half`: the fault of writing the lower one before the other is known to have it.
+fn write_ends(low: &[u8], high: &[u8], lower: &mut [u8], upper: &mut [u8], half: Fault) -> Result<(usize, usize), Refusal> {
+    if low.len() > lower.len() {
+        return Err((NO_ROOM, low.len() as u64));
     }
-    if has(Fault::BoundsHalf) {
-        lower[..first.len()].copy_from_slice(first);
+    if has(half) {
+        lower[..low.len()].copy_from_slice(low);
     }
-    if above.len() > upper.len() {
-        return Err((NO_ROOM, above.len() as u64));
+    if high.len() > upper.len() {
+        return Err((NO_ROOM, high.len() as u64));
     }
-    lower[..first.len()].copy_from_slice(first);
-    upper[..above.len()].copy_from_slice(&above);
-    Ok((first.len(), above.len()))
+    lower[..low.len()].copy_from_slice(low);
+    upper[..high.len()].copy_from_slice(high);
+    Ok((low.len(), high.len()))
 }
 
 impl From<Result<(usize, usize), Refusal>> for Ends {
@@ -81,6 +87,15 @@ fn alone(ty: &Type, value: &Value) -> Result<Vec<u8>, Refusal> {
     Ok(bytes)
 }
 
+/// The first values one behind the other.
+fn each_alone(types: &[Type], first: &[(String, Value)]) -> Result<Vec<u8>, Refusal> {
+    let mut bytes = Vec::new();
+    for (ty, (_, value)) in types.iter().zip(first) {
+        bytes.extend(alone(ty, value)?);
+    }
+    Ok(bytes)
+}
+
 /// Both ends, given room enough: the fields one behind the other, and the lowest's bytes cut off for the highest's.
 fn span_ends(ty: &[u32], first: Given<'_>, lowest: Given<'_>, highest: Given<'_>) -> Result<(Vec<u8>, Vec<u8>), Refusal> {
     let types = the_type(ty)?.fields();
@@ -101,10 +116,7 @@ fn span_ends(ty: &[u32], first: Given<'_>, lowest: Given<'_>, highest: Given<'_>
     if first.len() >= types.len() && !counted {
         return Err((NO_FIELD, 0));
     }
-    let mut lower = Vec::new();
-    for (ty, (_, value)) in types.iter().zip(&first) {
-        lower.extend(alone(ty, value)?);
-    }
+    let mut lower = each_alone(&types, &first)?;
     let shared = lower.len();
     if counted {
         return Ok((lower.clone(), tuple::above_field(&lower)));
@@ -140,18 +152,7 @@ fn span(ty: &[u32], sheets: [Given<'_>; 3], lower: &mut [u8], upper: &mut [u8]) 
     if has(Fault::SpanRoomUpper) && high.len() > upper.len() {
         return Err((NO_ROOM, high.len() as u64));
     }
-    if low.len() > lower.len() {
-        return Err((NO_ROOM, low.len() as u64));
-    }
-    if has(Fault::SpanHalf) {
-        lower[..low.len()].copy_from_slice(&low);
-    }
-    if high.len() > upper.len() {
-        return Err((NO_ROOM, high.len() as u64));
-    }
-    lower[..low.len()].copy_from_slice(&low);
-    upper[..high.len()].copy_from_slice(&high);
-    Ok((low.len(), high.len()))
+    write_ends(&low, &high, lower, upper, Fault::SpanHalf)
 }
 
 #[unsafe(no_mangle)]
@@ -162,6 +163,117 @@ pub unsafe extern "C" fn tuple_span(ty: *const u32, ty_len: usize, words: *const
         let lowest = (given(lowest_words, lowest_words_len), given(lowest_pool, lowest_pool_len));
         let highest = (given(highest_words, highest_words_len), given(highest_pool, highest_pool_len));
         span(given(ty, ty_len), [first, lowest, highest], lent(lower, lower_len), lent(upper, upper_len)).into()
+    }
+}
+
+/// The mark of what a field of the type begins with, if it is one that can.
+fn start_mark(ty: &Type) -> Option<u8> {
+    match ty {
+        Type::Plain(PredicateTy::Str) => Some(0x21),
+        Type::Plain(PredicateTy::Bytes) => Some(if has(Fault::StartMark) { 0x21 } else { 0x53 }),
+        Type::Plain(PredicateTy::Int) if has(Fault::StartInt) => Some(0x21),
+        Type::Optional(behind) if !has(Fault::StartOptional) => start_mark(behind),
+        _ if has(Fault::StartInside) => start_mark(ty.fields()?.first()?),
+        _ => None,
+    }
+}
+
+/// What begins with the bytes, behind the fields before it: every zero with FF behind it, and no end.
+fn begin(mut end: Vec<u8>, mark: u8, start: &[u8]) -> Vec<u8> {
+    end.push(mark);
+    for (i, byte) in start.iter().enumerate() {
+        end.push(*byte);
+        let last = has(Fault::StartLastZero) && i + 1 == start.len();
+        if *byte == 0 && !has(Fault::StartUnescaped) && !last {
+            end.push(0xFF);
+        }
+    }
+    if has(Fault::StartEnd) {
+        end.push(0x00);
+    }
+    end
+}
+
+/// Above all that begins with the lower end: its last byte that can be raised is, and those behind go.
+fn raised(mut end: Vec<u8>) -> Vec<u8> {
+    if has(Fault::StartAbove) {
+        return tuple::above_field(&end);
+    }
+    while end.ends_with(&[0xFF]) {
+        end.pop();
+        if has(Fault::StartRaised) && end.ends_with(&[0x00]) {
+            // the escape's FF kept, and the next byte for it
+            end.extend([0xFF, 0xFF]);
+            return end;
+        }
+    }
+    *end.last_mut().expect("a mark is below FF") += 1;
+    if has(Fault::StartTwice) { tuple::strinc(&end).unwrap_or(end) } else { end }
+}
+
+/// The faults take s for a sheet, whose pool has this limit.
+const MOST_START: usize = 1_048_576;
+
+/// What begins with some bytes: both ends, given room enough.
+fn start_ends(ty: &[u32], first: Given<'_>, start: &[u8]) -> Result<(Vec<u8>, Vec<u8>), Refusal> {
+    let types = the_type(ty)?.fields();
+    if has(Fault::StartFieldFirst) && types.is_none() {
+        return Err((NO_FIELD, 0));
+    }
+    let Value::Record(first) = the_value(first.0, first.1)? else { return Err((BAD_VALUE, 0)) };
+    let types = types.ok_or((NO_FIELD, 0))?;
+    if has(Fault::StartValuesFirst) {
+        each_alone(&types, &first)?;
+    }
+    let next = types.get(first.len()).ok_or((NO_FIELD, 0))?;
+    let mark = start_mark(if has(Fault::StartKindFirst) { &types[0] } else { next }).ok_or((NO_FIELD, 0))?;
+    let text = std::str::from_utf8(start).is_ok() || mark == 0x53;
+    if has(Fault::StartText) && !text {
+        return Err((BAD_STRING, 0));
+    }
+    if has(Fault::StartSheet) && !text || has(Fault::StartLong) && start.len() > MOST_START {
+        return Err((BAD_VALUE, 0));
+    }
+    if has(Fault::StartEmpty) && start.is_empty() {
+        return Err((NO_BOUND, 0));
+    }
+    let start = if has(Fault::StartCut) { &start[..start.len().min(MOST_START)] } else { start };
+    let before = each_alone(&types, &first)?;
+    let shared = before.len();
+    let mut lower = begin(before, mark, start);
+    let upper = raised(lower.clone());
+    if has(Fault::StartBlanks) && matches!(next, Type::Optional(_)) && start.is_empty() {
+        lower.truncate(shared);
+    }
+    Ok((lower, upper))
+}
+
+fn starting_with(ty: &[u32], first: Given<'_>, start: &[u8], lower: &mut [u8], upper: &mut [u8]) -> Result<(usize, usize), Refusal> {
+    let (low, high) = start_ends(ty, first, start)?;
+    if has(Fault::StartLimit) && low.len() > tuple::MAX_KEY_BYTES {
+        return Err((KEY_TOO_LONG, low.len() as u64));
+    }
+    if has(Fault::StartRoomUpper) && high.len() > upper.len() {
+        return Err((NO_ROOM, high.len() as u64));
+    }
+    // without the trailing FF of s, but with that of the zero before them
+    let measured = match start.iter().rposition(|byte| *byte != 0xFF) {
+        Some(at) if has(Fault::StartZeroFf) && start[at] == 0 && at + 1 < start.len() => high.len() + 1,
+        _ if has(Fault::StartRoomLower) => low.len(),
+        _ => high.len(),
+    };
+    if low.len() <= lower.len() && measured > high.len() && measured > upper.len() {
+        return Err((NO_ROOM, measured as u64));
+    }
+    write_ends(&low, &high, lower, upper, Fault::StartHalf)
+}
+
+#[unsafe(no_mangle)]
+#[rustfmt::skip]
+pub unsafe extern "C" fn tuple_starting_with(ty: *const u32, ty_len: usize, words: *const u64, words_len: usize, pool: *const u8, pool_len: usize, start: *const u8, start_len: usize, lower: *mut u8, lower_len: usize, upper: *mut u8, upper_len: usize) -> Ends {
+    unsafe {
+        let first = (given(words, words_len), given(pool, pool_len));
+        starting_with(given(ty, ty_len), first, given(start, start_len), lent(lower, lower_len), lent(upper, upper_len)).into()
     }
 }
 

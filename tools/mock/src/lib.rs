@@ -1,5 +1,6 @@
 //! The library's boundary over the original. What the port adds is done another way than in the oracle: bounds and replacement by
-//! skip and by moving bytes, a span by each value alone, the zeros escaped by a walk over the value.
+//! skip and by moving bytes, a span by each value alone, the names that begin with some bytes by a walk over those, the zeros escaped by a
+//! walk over the value.
 
 mod cursors;
 mod faults;

@@ -1,5 +1,5 @@
 -- What is left of the text falls with every line.
-use Rattle.std.proofs.Common.{◌-◌, ◌≤◌, length, rules}
+use Rattle.std.proofs.Common.{◌-◌, ◌≤◌, length}
 use Rattle.replay.proofs.counts.Given as goal
 
 abbrev pub invariant-loop-at : goal.invariant-loop-at

@@ -70,7 +70,7 @@ fn refusals(kind: Kind) -> &'static [u32] {
         Strinc => &[0, 17, 19],
         AboveField => &[0, 17],
         Bounds => &[0, 1, 2, 4, 5, 6, 8, 9, 10, 13, 14, 15, 17, 18],
-        Span => &[0, 6, 8, 9, 10, 11, 12, 15, 16, 17, 18],
+        Span | StartingWith => &[0, 6, 8, 9, 10, 11, 12, 15, 16, 17, 18],
         Replace => &[0, 1, 2, 4, 5, 6, 7, 8, 9, 10, 11, 12, 13, 14, 15, 16, 17, 18],
         GetI64 | TakeI64 => &[0, 1, 2, 5, 13, 14],
         GetU64 | TakeU64 => &[0, 1, 2, 5],
@@ -142,6 +142,12 @@ fn bytes_class(bytes: &[u8]) -> u64 {
     (first as u64 * 16 + length_class(bytes.len())) * 4 + u64::from(escape) * 2 + u64::from(bytes.ends_with(&[0x00]))
 }
 
+/// By the last byte, and by the last one that is not FF.
+fn end_class(bytes: &[u8]) -> u64 {
+    let behind_ff = bytes.iter().rev().find(|byte| **byte != 0xFF);
+    bytes_class(&bytes[bytes.len().saturating_sub(1)..]) * 4 + behind_ff.map_or(0, |byte| 1 + u64::from(*byte == 0))
+}
+
 fn room_class(room: usize, needed: usize) -> u64 {
     match (room, needed) {
         (0, _) => 0,
@@ -154,7 +160,12 @@ fn room_class(room: usize, needed: usize) -> u64 {
 
 /// One number for all that tells two lines of the same refusal and detail apart.
 fn shape_class(call: &Call, answer: &Answer, outcome: &Outcome) -> u64 {
-    let third = [bytes_class(&call.other_pool), words_class(call.third_words.iter().copied()), bytes_class(&call.third_pool)];
+    let more = match call.kind {
+        Kind::Span => [bytes_class(&call.other_pool), words_class(call.third_words.iter().copied()), bytes_class(&call.third_pool)],
+        // how s ends, by which the upper end goes
+        Kind::StartingWith => [end_class(&call.bytes), outcome.bytes.len().abs_diff(outcome.pool.len()).min(4) as u64, 0],
+        _ => [0; 3],
+    };
     let lists = [
         words_class(call.ty.iter().map(|word| u64::from(*word))),
         words_class(call.words.iter().copied()),
@@ -167,7 +178,7 @@ fn shape_class(call: &Call, answer: &Answer, outcome: &Outcome) -> u64 {
     let numbers = call.numbers.into_iter().chain(answer.numbers).map(number_class);
     lists
         .into_iter()
-        .chain(if call.kind == Kind::Span { third } else { [0; 3] })
+        .chain(more)
         .chain(numbers)
         .fold(0xCBF2_9CE4_8422_2325, |mixed: u64, class| (mixed ^ class).wrapping_mul(0x100_0000_01B3).rotate_left(17))
 }
@@ -336,8 +347,8 @@ fn run_families(chooser: &mut Chooser, options: &Options) {
             ("lengths", _) => options.inputs / 20,
             ("bytes3" | "types5" | "steps2" | "places" | "copies", _) => options.inputs / 50,
             ("optional5", _) => options.inputs / 100,
-            ("spans5", _) => options.inputs / 8,
-            ("members", _) => 0,
+            ("spans5" | "starts5", _) => options.inputs / 8,
+            ("members" | "begun", _) => 0,
             ("depths" | "counts" | "optdepths", _) => options.inputs / 4,
             _ => options.inputs,
         };
@@ -378,19 +389,21 @@ fn run(options: Options) -> ExitCode {
         }
     }
     run_families(&mut chooser, &options);
-    // a span's refusals are for the most part those of encoding, which have lines of their own
-    let halved = |kind: Kind| kind == Kind::Span && !options.large;
+    // a span's refusals are for the most part those of encoding, which have lines of their own; a beginning has many specimens
+    let part = |kind: Kind| match kind {
+        Kind::Span if !options.large => 2,
+        Kind::StartingWith if !options.large => 3,
+        _ => 1,
+    };
     let per = if options.large { LARGE_PER } else { options.per };
     for (call, sorts) in chooser.chosen {
         // an accepted call tells most
         let per = if call.1 == 0 { 2 * per } else { per };
-        let per = if halved(call.0) { per / 2 } else { per };
-        lines.entry(call).or_default().extend(choose(sorts, per));
+        lines.entry(call).or_default().extend(choose(sorts, per / part(call.0)));
     }
     for (call, sorts) in chooser.optional {
         let per = if call.1 == 0 { per } else { per / 3 };
-        let per = if halved(call.0) { per / 2 } else { per };
-        lines.entry(call).or_default().extend(choose(sorts, per));
+        lines.entry(call).or_default().extend(choose(sorts, per / part(call.0)));
     }
 
     let mut missing = 0;

@@ -123,12 +123,7 @@ const BLOCK_LENGTHS: [usize; 12] = [0, 8, 16, 32, 48, 64, 96, 128, 240, 256, 480
 
 pub fn runs(work: &mut Work, _input: u64, sink: &mut dyn Sink) {
     let random = &mut work.random;
-    let len = match random.below(8) {
-        0..=2 => random.below(10),
-        7 => random.below(1_500),
-        _ => (random.pick(&BLOCK_LENGTHS) + random.below(5)).saturating_sub(2),
-    };
-    let payload = run_payload(random, len);
+    let payload = some_payload(random);
     let mark = random.pick(&[0x21, 0x53]);
     let mut bytes = Vec::new();
     write_run(mark, &payload, &mut bytes);
@@ -167,6 +162,16 @@ pub fn runs(work: &mut Work, _input: u64, sink: &mut dyn Sink) {
     }
     work.set_other(&other);
     work.send(Kind::Compare, sink);
+}
+
+/// Short, or round the length of some blocks, or long.
+pub(super) fn some_payload(random: &mut Random) -> Vec<u8> {
+    let len = match random.below(8) {
+        0..=2 => random.below(10),
+        7 => random.below(1_500),
+        _ => (random.pick(&BLOCK_LENGTHS) + random.below(5)).saturating_sub(2),
+    };
+    run_payload(random, len)
 }
 
 fn run_payload(random: &mut Random, len: usize) -> Vec<u8> {
@@ -537,6 +542,11 @@ fn long_values(work: &mut Work, sink: &mut dyn Sink) {
     }
     work.send(Kind::Compare, sink);
 
+    // as the first values before a name
+    work.call.ty = vec![5, 1, 2];
+    work.call.bytes.clear();
+    work.send(Kind::StartingWith, sink);
+
     // as each sheet of a span
     work.call.ty = vec![5, 1, 1];
     work.set_third(&Val::Int(0));
@@ -580,6 +590,14 @@ fn large_pools(work: &mut Work, sink: &mut dyn Sink) {
     work.set_third(&Val::Int(0));
     work.call.ty = vec![5, 2, kind, int];
     work.send(Kind::Span, sink);
+
+    // as what a name begins with, which has no limit, and as the first value before it
+    work.call.bytes.clone_from(&work.call.pool);
+    work.call.ty = vec![5, 2, kind, kind];
+    work.send(Kind::StartingWith, sink);
+    work.call.bytes.push(0xFF);
+    work.set_value(&Val::Record(vec![]));
+    work.send(Kind::StartingWith, sink);
 }
 
 /// The changed record is no sheet: it may pass the limits through the new value.

@@ -5,6 +5,7 @@ mod exhaustive;
 mod keys;
 mod optional;
 mod spans;
+mod starts;
 mod steps;
 mod typed;
 
@@ -203,6 +204,27 @@ pub const FAMILIES: &[Family] = &[
         inputs: None,
         chunk: 16,
         run: spans::members,
+    },
+    Family {
+        name: "starts5",
+        about: "what begins with s: every type sheet of up to 5 words over 0 to 7 and longer ones, with short first sheets and every s of up to 3 telling bytes",
+        inputs: Some(starts::STARTS5_INPUTS),
+        chunk: 16,
+        run: starts::starts5,
+    },
+    Family {
+        name: "starts",
+        about: "what begins with s under random types, at every count of fields, s of a name or of any bytes, good and ill-formed, deep, long and wide",
+        inputs: None,
+        chunk: 32,
+        run: starts::starts,
+    },
+    Family {
+        name: "begun",
+        about: "names round the edge of what they begin with: a key lies between the library's ends exactly where its value says so",
+        inputs: None,
+        chunk: 16,
+        run: starts::begun,
     },
 ];
 

@@ -34,12 +34,12 @@ const TYPES: [&[u32]; 14] = [
 ];
 
 /// A sheet's words and pool.
-type Short = (&'static [u64], &'static [u8]);
+pub(super) type Short = (&'static [u64], &'static [u8]);
 
 const REFERENCE: u64 = (7 << SEQUENCE_BITS) + 1;
 
 /// Not admitted; of another kind; records of 0, 1, 2 and 3 fields.
-const FIRSTS: [Short; 25] = [
+pub(super) const FIRSTS: [Short; 25] = [
     (&[], &[]),
     (&[9], &[]),
     (&[5, 1], &[]),
@@ -131,7 +131,7 @@ fn send(work: &mut Work, first: Val, lowest: &Val, highest: &Val, sink: &mut dyn
 }
 
 /// A record type, with word 7 in half of them.
-fn fields_of_some(random: &mut Random) -> Vec<Ty> {
+pub(super) fn fields_of_some(random: &mut Random) -> Vec<Ty> {
     let nodes = random.pick(&[2, 6, 12]);
     let Ty::Record(mut types) = generate::record_ty(random, nodes) else { unreachable!("a record type") };
     if random.one_in(2) {
@@ -145,27 +145,38 @@ fn some(work: &mut Work, sink: &mut dyn Sink) {
     let Val::Record(fields) = generate::fitting(&mut work.random, &Ty::Record(types.clone())) else { unreachable!("a record") };
     held_to_bounds(work, &types, &fields);
     for k in 0..=types.len() + 1 {
-        work.set_type(&Ty::Record(types.clone()));
-        match work.random.below(24) {
-            0 => work.call.ty.insert(0, 7),
-            1 => generate::spoil_type(&mut work.random, &mut work.call.ty),
-            2 => {
-                let other = generate::ty(&mut work.random, 6);
-                work.set_type(&other);
-            }
-            _ => {}
-        }
+        set_fields(work, &types);
         at_count(work, &types, &fields, k, sink);
     }
+}
+
+/// The record type of these fields; now and then optional, ill-formed, or another type.
+pub(super) fn set_fields(work: &mut Work, types: &[Ty]) {
+    work.set_type(&Ty::Record(types.to_vec()));
+    match work.random.below(24) {
+        0 => work.call.ty.insert(0, 7),
+        1 => generate::spoil_type(&mut work.random, &mut work.call.ty),
+        2 => {
+            let other = generate::ty(&mut work.random, 6);
+            work.set_type(&other);
+        }
+        _ => {}
+    }
+}
+
+/// The first k values, one more than there are too.
+pub(super) fn first_of(random: &mut Random, fields: &[Val], k: usize) -> Val {
+    let mut first = fields[..k.min(fields.len())].to_vec();
+    if k > fields.len() {
+        first.push(generate::value(random, 3));
+    }
+    Val::Record(first)
 }
 
 /// A span of k first fields: good, or with values that do not fit, or with a sheet that is not admitted; also the other way round.
 fn at_count(work: &mut Work, types: &[Ty], fields: &[Val], k: usize, sink: &mut dyn Sink) {
     let random = &mut work.random;
-    let mut first = Val::Record(fields.iter().take(k).cloned().collect());
-    if let (true, Val::Record(first)) = (k > fields.len(), &mut first) {
-        first.push(generate::value(random, 3));
-    }
+    let mut first = first_of(random, fields, k);
     let (mut lowest, mut highest) = match types.get(k) {
         Some(next) => {
             let lowest = if random.one_in(2) { fields[k].clone() } else { generate::fitting(random, next) };
@@ -232,9 +243,8 @@ fn held_to_bounds(work: &mut Work, types: &[Ty], fields: &[Val]) {
     }
 }
 
-/// 254 to 258 groups, or round the 320 that a sheet may have: as the lowest, as the highest, as both, and among the first fields.
-fn deep(work: &mut Work, sink: &mut dyn Sink) {
-    let random = &mut work.random;
+/// A chain of 254 to 258 groups, or round the 320 that a sheet may have, and its value.
+pub(super) fn deep_field(random: &mut Random) -> (Ty, Val) {
     let groups = if random.one_in(4) { random.between(316, 321) } else { random.between(254, 258) };
     let chain = random.pick(&[Chain::Records, Chain::Unions, Chain::Turns, Chain::Mixed, Chain::Wide]);
     let (mut ty, mut val) = (Ty::Int, Val::Int(generate::int(random)));
@@ -244,6 +254,13 @@ fn deep(work: &mut Work, sink: &mut dyn Sink) {
     for group in 0..groups {
         (ty, val) = wrapped(random, chain, group, ty, val);
     }
+    (ty, val)
+}
+
+/// Deep as the lowest, as the highest, as both, and among the first fields.
+fn deep(work: &mut Work, sink: &mut dyn Sink) {
+    let random = &mut work.random;
+    let (ty, val) = deep_field(random);
     let near = generate::near(random, &ty, &val);
     let empty = || Val::Record(vec![]);
     work.set_type(&Ty::Record(vec![ty.clone(), Ty::Int]));
@@ -262,9 +279,8 @@ fn deep(work: &mut Work, sink: &mut dyn Sink) {
     send(work, empty(), &deeper, &shallow, sink);
 }
 
-/// Ends round the longest key's 65,531 bytes and past a length of 16 bits, by the first fields or by the lowest and the highest.
-fn long(work: &mut Work, sink: &mut dyn Sink) {
-    let random = &mut work.random;
+/// A Str or Bytes round the longest key's 65,531 bytes and past a length of 16 bits.
+pub(super) fn long_run(random: &mut Random) -> (Ty, Vec<u8>) {
     let len = match random.below(4) {
         0 => random.between(60_000, 71_000),
         _ => random.between(65_520, 65_540),
@@ -275,7 +291,19 @@ fn long(work: &mut Work, sink: &mut dyn Sink) {
         payload.truncate(len - at);
         payload[..at].fill(0);
     }
-    let (run, other) = if random.one_in(2) { (Ty::Bytes, Val::Bytes(payload)) } else { (Ty::Str, Val::Str(payload)) };
+    (if random.one_in(2) { Ty::Bytes } else { Ty::Str }, payload)
+}
+
+/// The Str or Bytes with this payload.
+pub(super) fn val_of(run: &Ty, payload: Vec<u8>) -> Val {
+    if matches!(run, Ty::Str) { Val::Str(payload) } else { Val::Bytes(payload) }
+}
+
+/// Long ends, by the first fields or by the lowest and the highest.
+fn long(work: &mut Work, sink: &mut dyn Sink) {
+    let random = &mut work.random;
+    let (run, payload) = long_run(random);
+    let other = val_of(&run, payload);
     let small = generate::fitting(random, &run);
     let number = || Val::Record(vec![Val::Int(500)]);
     let [low, high] = [generate::int(random), generate::int(random)].map(Val::Int);
@@ -288,14 +316,19 @@ fn long(work: &mut Work, sink: &mut dyn Sink) {
     send(work, number(), &other, &other, sink);
 }
 
-/// Records of many fields, with the span on one of the last; types of up to 4,098 words.
-fn wide(work: &mut Work, sink: &mut dyn Sink) {
-    let random = &mut work.random;
-    let count = match random.below(3) {
+/// Many fields; as types of up to 4,098 words too.
+pub(super) fn wide_count(random: &mut Random) -> usize {
+    match random.below(3) {
         0 => random.between(60, 70),
         1 => random.between(250, 260),
         _ => random.between(4_091, 4_096),
-    };
+    }
+}
+
+/// Records of many fields, with the span on one of the last.
+fn wide(work: &mut Work, sink: &mut dyn Sink) {
+    let random = &mut work.random;
+    let count = wide_count(random);
     let ty = random.pick(&[0, 1]);
     let (ty, val) = [(Ty::Int, Val::Int(7)), (Ty::Bytes, Val::Bytes(vec![0]))][ty].clone();
     let near = generate::near(random, &ty, &val);
@@ -338,21 +371,25 @@ pub fn members(work: &mut Work, _input: u64, sink: &mut dyn Sink) {
     for _ in 0..SPANS {
         let lowest = &pools[k][work.random.below(pools[k].len())];
         let highest = &pools[k][work.random.below(pools[k].len())];
-        let first = Val::Record(pools[..k].iter().map(|pool| pool[work.random.below(pool.len())].clone()).collect());
+        let first = record_of_some(&mut work.random, &pools[..k]);
         work.set_value(&first);
         work.set_other(lowest);
         work.set_third(highest);
         work.call.kind = Kind::Span;
-        work.oracle.run(&work.call);
-        if work.oracle.outcome.answer.refusal == 0 {
-            spans.push((work.call.clone(), keys.iter().map(|key| holds(&work.call, key)).collect()));
-        }
+        spans.extend(held_by(work, &keys));
     }
     sink.members(&keys, &spans);
 }
 
+/// The span at hand where the original accepts it, and which of the keys it holds by their values.
+pub(super) fn held_by(work: &mut Work, keys: &[Call]) -> Option<(Call, Vec<bool>)> {
+    work.oracle.run(&work.call);
+    let held = || keys.iter().map(|key| holds(&work.call, key)).collect();
+    (work.oracle.outcome.answer.refusal == 0).then(|| (work.call.clone(), held()))
+}
+
 /// A value of a type, and so many more that are near it or one another.
-fn some_of(random: &mut Random, ty: &Ty, more: usize) -> Vec<Val> {
+pub(super) fn some_of(random: &mut Random, ty: &Ty, more: usize) -> Vec<Val> {
     let mut vals = vec![generate::fitting(random, ty)];
     for _ in 0..more {
         let of = random.below(vals.len());
@@ -362,9 +399,14 @@ fn some_of(random: &mut Random, ty: &Ty, more: usize) -> Vec<Val> {
     vals
 }
 
-/// A record with each field from its values, as a call of encode_key that the original accepts.
-fn key_of_some(work: &mut Work, pools: &[Vec<Val>]) -> Option<Call> {
-    let val = Val::Record(pools.iter().map(|pool| pool[work.random.below(pool.len())].clone()).collect());
+/// A record with each field from its values.
+pub(super) fn record_of_some(random: &mut Random, pools: &[Vec<Val>]) -> Val {
+    Val::Record(pools.iter().map(|pool| pool[random.below(pool.len())].clone()).collect())
+}
+
+/// Such a record as a call of encode_key that the original accepts.
+pub(super) fn key_of_some(work: &mut Work, pools: &[Vec<Val>]) -> Option<Call> {
+    let val = record_of_some(&mut work.random, pools);
     work.set_value(&val);
     let key = Call { ty: work.call.ty.clone(), words: work.call.words.clone(), pool: work.call.pool.clone(), ..Call::new(Kind::EncodeKey) };
     work.oracle.run(&key);

@@ -152,7 +152,7 @@ pub fn wild(work: &mut Work, _input: u64, sink: &mut dyn Sink) {
     }
     work.send_all(&ENCODING, sink);
     work.send_all(&DECODING, sink);
-    work.send(Kind::Compare, sink);
+    work.send_all(&[Kind::Compare, Kind::StartingWith], sink);
     work.send_all(&READERS, sink);
     work.send_all(&[Kind::Strinc, Kind::AboveField, Kind::Chars, Kind::Names], sink);
     for kind in [

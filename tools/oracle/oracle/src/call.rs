@@ -14,6 +14,7 @@ pub enum Kind {
     AboveField,
     Bounds,
     Span,
+    StartingWith,
     Replace,
     GetI64,
     GetU64,
@@ -45,7 +46,7 @@ pub enum Kind {
 
 use Kind::*;
 
-pub const KINDS: [Kind; 38] = [
+pub const KINDS: [Kind; 39] = [
     EncodeTyped,
     EncodeKey,
     DecodeTyped,
@@ -57,6 +58,7 @@ pub const KINDS: [Kind; 38] = [
     AboveField,
     Bounds,
     Span,
+    StartingWith,
     Replace,
     GetI64,
     GetU64,
@@ -196,6 +198,9 @@ impl Kind {
                 ["lower", "upper"],
                 [Bytes, Pool]
             ),
+            StartingWith => {
+                shape!("starting_with", "keys", [Type, Words, Pool, Bytes, Room(0), Room(1)], ["lower", "upper"], [Bytes, Pool])
+            }
             Replace => shape!("replace", "keys", [Type, Bytes, Number(0), Number(1), Words, Pool], ["length"], [Whole]),
             GetI64 => shape!("get_i64", "scalars", [Bytes], ["value", "used"], []),
             GetU64 => shape!("get_u64", "scalars", [Bytes], ["value", "used"], []),

@@ -68,7 +68,10 @@ fn field_types(ty: &Type) -> Result<usize, Refusal> {
     ty.fields().map(|fields| fields.len()).ok_or((NO_FIELD, 0))
 }
 
-fn fields_of(value: Value) -> Box<[(String, Value)]> {
+/// The fields of a record.
+type Fields = Box<[(String, Value)]>;
+
+fn fields_of(value: Value) -> Fields {
     match value {
         Value::Record(fields) => fields,
         _ => unreachable!("a record type decodes to a record"),
@@ -142,6 +145,7 @@ impl Oracle {
             AboveField => self.writes(Ok(tuple::above_field(&call.bytes))),
             Bounds => self.bounds(call),
             Span => self.span(call),
+            StartingWith => self.starting_with(call),
             Replace => self.replace(call),
             GetI64 => by_original(tuple::get_i64(&call.bytes)).map(|(int, used)| answered(&[int as u64, used as u64])),
             GetU64 => by_original(tuple::get_u64(&call.bytes)).map(|(number, used)| answered(&[number, used as u64])),
@@ -233,15 +237,28 @@ impl Oracle {
             return Err((NO_FIELD, 0));
         }
         let fields = fields_of(ty.decode_key(&self.interner, &call.bytes).0?);
-        self.outcome.bytes = ty.first_fields(&fields, k as usize).expect("a decoded field encodes");
-        self.outcome.pool = tuple::above_field(&self.outcome.bytes);
-        Ok(answered(&[self.outcome.bytes.len() as u64, self.outcome.pool.len() as u64]))
+        let lower = ty.first_fields(&fields, k as usize).expect("a decoded field encodes");
+        let upper = tuple::above_field(&lower);
+        Ok(self.writes_ends(lower, upper))
+    }
+
+    fn writes_ends(&mut self, lower: Vec<u8>, upper: Vec<u8>) -> Answer {
+        (self.outcome.bytes, self.outcome.pool) = (lower, upper);
+        answered(&[self.outcome.bytes.len() as u64, self.outcome.pool.len() as u64])
+    }
+
+    /// The type, and the first values of a span, which are a Record's.
+    fn first_values(&mut self, call: &Call) -> Result<(Type, Fields), Refusal> {
+        let ty = self.ty(&call.ty)?;
+        match admit_value(&call.words, &call.pool) {
+            Some(Value::Record(first)) => Ok((ty, first)),
+            _ => Err((BAD_VALUE, 0)),
+        }
     }
 
     /// The first values and one more behind them, bare at depth 0: the lowest, and the highest with FF. An end is no key, and has no limit.
     fn span(&mut self, call: &Call) -> Result<Answer, Refusal> {
-        let ty = self.ty(&call.ty)?;
-        let Some(Value::Record(first)) = admit_value(&call.words, &call.pool) else { return Err((BAD_VALUE, 0)) };
+        let (ty, first) = self.first_values(call)?;
         let lowest = admit_value(&call.other_words, &call.other_pool).ok_or((BAD_VALUE, 0))?;
         let highest = admit_value(&call.third_words, &call.third_pool).ok_or((BAD_VALUE, 0))?;
         if first.len() >= field_types(&ty)? {
@@ -252,9 +269,23 @@ impl Oracle {
         fields.push((NAME.to_owned(), lowest));
         let lower = ty.first_fields(&fields, k + 1)?;
         fields[k].1 = highest;
-        self.outcome.pool = tuple::above_field(&ty.first_fields(&fields, k + 1)?);
-        self.outcome.bytes = lower;
-        Ok(answered(&[self.outcome.bytes.len() as u64, self.outcome.pool.len() as u64]))
+        let upper = tuple::above_field(&ty.first_fields(&fields, k + 1)?);
+        Ok(self.writes_ends(lower, upper))
+    }
+
+    /// The first values bare at depth 0, then the run that the original makes of any bytes, behind the mark of the next field and without its
+    /// end; and the original's strinc of that, which the mark always leaves a byte to raise.
+    fn starting_with(&mut self, call: &Call) -> Result<Answer, Refusal> {
+        let (ty, first) = self.first_values(call)?;
+        let next = ty.fields().and_then(|types| types.get(first.len()).cloned());
+        let mark = next.and_then(|next| next.run_mark()).ok_or((NO_FIELD, 0))?;
+        let mut lower = ty.first_fields(&first, first.len())?;
+        let at = lower.len();
+        tuple::put_bytes(&mut lower, &call.bytes);
+        lower[at] = mark;
+        lower.pop();
+        let upper = tuple::strinc(&lower).expect("the mark is below FF");
+        Ok(self.writes_ends(lower, upper))
     }
 
     /// The original composed: decode, change, encode. The changed record is never judged as a sheet.

@@ -1,5 +1,5 @@
 //! Each call of document 01, computed by the original over sheets; what the port adds (admission of sheets, room in lent
-//! buffers, replacement, bounds) is derived from document 01 over the original's results, and optional types (document 02, U2) are
+//! buffers, replacement, bounds, spans) is derived from document 01 over the original's results, and optional types (document 02, U2) are
 //! composed of its steps.
 //!
 //! The original recurses: run an [`Oracle`] on a thread with a stack of [`STACK`] bytes.

@@ -5,7 +5,7 @@
 use crate::refusal::{Refusal, refusal};
 use crate::sheet::{self, BYTES, INT, MAX_GROUPS, MAX_TYPE_WORDS, RECORD, REFERENCE, STR, UNION};
 use fjord_encoding::error::StoreCodecError as Error;
-use fjord_encoding::tuple::{self, TupleDecoder, TupleEncoder, Value};
+use fjord_encoding::tuple::{self, MARK_BYTES, MARK_STRING, TupleDecoder, TupleEncoder, Value};
 use fjord_schema::schema::{Alternative, LocalInterner, NAME, PredicateId, PredicateTy, Spur};
 use std::cell::Cell;
 use std::sync::Arc;
@@ -145,6 +145,16 @@ impl Type {
         match self {
             Type::Plain(PredicateTy::Record(fields)) => Some(fields.iter().map(|(_, ty)| Type::Plain(ty.clone())).collect()),
             Type::Record(fields) => Some(fields.to_vec()),
+            _ => None,
+        }
+    }
+
+    /// The mark of a Str or of Bytes, optional ones too; none for another type.
+    pub fn run_mark(&self) -> Option<u8> {
+        match self {
+            Type::Plain(PredicateTy::Str) => Some(MARK_STRING),
+            Type::Plain(PredicateTy::Bytes) => Some(MARK_BYTES),
+            Type::Optional(behind) => behind.run_mark(),
             _ => None,
         }
     }

@@ -30,7 +30,7 @@ fn units_short(call: &Call, outcome: &Outcome) -> Option<u64> {
     match call.kind {
         EncodeTyped | EncodeKey | Strinc | AboveField => over(outcome.bytes.len(), call.rooms[0]),
         DecodeTyped | DecodeKey => over(outcome.words.len(), call.rooms[0]).or(over(outcome.pool.len(), call.rooms[1])),
-        Bounds | Span => over(outcome.bytes.len(), call.rooms[0]).or(over(outcome.pool.len(), call.rooms[1])),
+        Bounds | Span | StartingWith => over(outcome.bytes.len(), call.rooms[0]).or(over(outcome.pool.len(), call.rooms[1])),
         Replace => over(outcome.bytes.len(), call.bytes.len()),
         GetStr | GetBytes | TakeStr | TakeBytes if outcome.answer.numbers[0] == IN_SCRATCH => over(outcome.bytes.len(), call.rooms[0]),
         PutI64 | PutU64 | PutStr | PutBytes | PutFactId | PutNull | PutRecord | PutUnion | PutEnd => {
@@ -84,7 +84,7 @@ pub fn telling_rooms(call: &Call, outcome: &Outcome, rooms: &mut Vec<[usize; 2]>
                 around_two(outcome.words.len(), second, rooms);
             }
         }
-        Bounds | Span => {
+        Bounds | Span | StartingWith => {
             if refused {
                 rooms.extend([[0, 0], [32, 32]]);
             } else {

@@ -1,5 +1,5 @@
 -- Invariant: the end is the slice's length, so each place read lies within it. The places left fall.
-use Rattle.std.proofs.Common.{◌≡◌, ◌-◌, length, rules}
+use Rattle.std.proofs.Common.{◌≡◌, ◌-◌, length}
 use Rattle.refusals.proofs.spans.held.Given as goal
 
 abbrev pub invariant-loop-i : goal.invariant-loop-i

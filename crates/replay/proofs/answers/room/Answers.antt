@@ -1,5 +1,5 @@
 -- The lesser of the number asked for and the buffer's length.
-use Rattle.std.proofs.Common.{arith, length-take, rules}
+use Rattle.std.proofs.Common.{arith, length-take}
 use Rattle.replay.proofs.answers.room.Goals as goal
 
 pub returns-then-n-all : goal.returns-then-n-all

@@ -1,5 +1,5 @@
 -- The place stays within the 72,000 bytes of the buffer, and what is left of them falls.
-use Rattle.std.proofs.Common.{◌-◌, ◌≤◌, rules}
+use Rattle.std.proofs.Common.{◌-◌, ◌≤◌}
 use Rattle.replay.proofs.answers.untouched.Given as goal
 
 abbrev pub invariant-loop-i : goal.invariant-loop-i

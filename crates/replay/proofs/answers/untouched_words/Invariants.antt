@@ -1,5 +1,5 @@
 -- The place stays within the 8,192 words of the buffer, and what is left of them falls.
-use Rattle.std.proofs.Common.{◌-◌, ◌≤◌, rules}
+use Rattle.std.proofs.Common.{◌-◌, ◌≤◌}
 use Rattle.replay.proofs.answers.untouched_words.Given as goal
 
 abbrev pub invariant-loop-i : goal.invariant-loop-i

@@ -1,5 +1,5 @@
 -- At most 8,193 steps are taken, and what is left of them falls.
-use Rattle.std.proofs.Common.{◌-◌, ◌≤◌, rules}
+use Rattle.std.proofs.Common.{◌-◌, ◌≤◌}
 use Rattle.replay.proofs.reader.run.Given as goal
 
 abbrev pub invariant-loop-i : goal.invariant-loop-i

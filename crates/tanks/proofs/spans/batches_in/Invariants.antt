@@ -1,5 +1,5 @@
 -- Invariant: the place is at most the array's length. The places left fall.
-use Rattle.std.proofs.Common.{◌-◌, ◌≤◌, rules}
+use Rattle.std.proofs.Common.{◌-◌, ◌≤◌}
 use Rattle.tanks.proofs.spans.batches_in.Given as goal
 
 abbrev pub invariant-loop-i : goal.invariant-loop-i

@@ -176,6 +176,13 @@ impl Ours {
                     ))
                 }
                 #[cfg(feature = "keys")]
+                StartingWith => {
+                    let (lower, upper) = (self.bytes.lend(room), self.pool.lend(other_room));
+                    of_ends(tuple_starting_with(
+                        ty, ty_len, words, words_len, pool, pool_len, bytes, bytes_len, lower, room, upper, other_room,
+                    ))
+                }
+                #[cfg(feature = "keys")]
                 Replace => {
                     let buffer = self.bytes.lend_holding(&call.bytes);
                     let (used, field) = (first as usize, second as usize);
@@ -310,7 +317,7 @@ impl Ours {
             | IsRecordEnd | CharsNext => true,
             Chars | Names => !accepted || self.codes == words,
             DecodeTyped | DecodeKey => self.words.holds(room, 0, words) & self.pool.holds(other_room, 0, pool),
-            Bounds | Span => self.bytes.holds(room, 0, bytes) & self.pool.holds(other_room, 0, pool),
+            Bounds | Span | StartingWith => self.bytes.holds(room, 0, bytes) & self.pool.holds(other_room, 0, pool),
             Replace => self.bytes.filled_with(bytes, &call.bytes[bytes.len()..]),
             _ => self.bytes.holds(room, outcome.at, bytes),
         }
@@ -331,7 +338,7 @@ impl Ours {
                 outcome.words = self.words.held(0, number(1).min(room)).to_vec();
                 outcome.pool = self.pool.held(0, number(2).min(other_room)).to_vec();
             }
-            Kind::Bounds | Kind::Span => {
+            Kind::Bounds | Kind::Span | Kind::StartingWith => {
                 outcome.bytes = self.bytes.held(0, number(0).min(room)).to_vec();
                 outcome.pool = self.pool.held(0, number(1).min(other_room)).to_vec();
             }

@@ -114,7 +114,8 @@ impl Both {
 
     /// The call with the library's answer, and what it handed out, given room enough. A refusal is a stray, since the original accepts it.
     fn shown(&mut self, call: &Call) -> (String, Outcome) {
-        let first = room_for(&call.words, &call.pool);
+        // of the first values, and of what the next begins with
+        let first = room_for(&call.words, &call.pool) + 2 * call.bytes.len();
         let rooms = [first + room_for(&call.other_words, &call.other_pool), first + room_for(&call.third_words, &call.third_pool)];
         let call = Call { rooms, ..call.clone() };
         let (answer, outcome) = self.ours.seen(&call);

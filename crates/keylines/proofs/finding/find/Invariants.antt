@@ -2,7 +2,7 @@
 use Prim.Native.Nat.{◌-◌}
 use lib.ListN.{length}
 use Rattle.keylines.proofs.TextLaws as laws
-use Rattle.keylines.proofs.text.find.Given as goal
+use Rattle.keylines.proofs.finding.find.Given as goal
 
 abbrev pub invariant-loop-i : goal.invariant-loop-i
 invariant-loop-i l = laws.Searched l.text l.at l.byte l.i

@@ -1,7 +1,7 @@
 use mathlib.Core.Path.{refl}
 use native.Mathlib.Omega.{arith}
 use Rattle.keylines.proofs.TextLaws as laws
-use Rattle.keylines.proofs.text.find.Goals as goal
+use Rattle.keylines.proofs.finding.find.Goals as goal
 
 pub loop-i-init : goal.loop-i-init
 loop-i-init c = record { from = omega arith; within = c.requires; left = refl }

@@ -1,0 +1,92 @@
+// Rows of a table: a type, the words and the pool of the first values, a beginning, and the two rooms, written as in the fixed list; a line with # is a heading.
+// Behind a row stand the two ends, or the refusal. The lent buffers are full of EE: a refused call leaves all of it, an accepted one what lies behind the ends.
+ghost use Rattle.lines.specs.Counts.{Counts};
+
+use key::Bounded;
+
+// Are the bytes from a place on still EE? There are at most sixteen.
+fn held(s: &[u8], from: usize) -> bool {
+    if s.len() < from {
+        return false;
+    }
+    let rest = &s[from..];
+    blocks::differ_at(rest, &[0xeeu8; 16]) == rest.len()
+}
+
+fn held_both(lower: &[u8], low: usize, upper: &[u8], high: usize) {
+    if held(lower, low) && held(upper, high) {
+        show::text(b": kept, ");
+    } else {
+        show::text(b": changed, ");
+    }
+}
+
+fn answer(r: Bounded, lower: &[u8; 16], upper: &[u8; 16]) {
+    match r {
+        Bounded::Refused(no, detail) => {
+            held_both(lower, 0, upper, 0);
+            show::refusal(no, detail);
+        }
+        Bounded::Done(low, high) => {
+            held_both(lower, low, upper, high);
+            show::bytes(lower, low);
+            show::text(b" to ");
+            show::line(upper, high);
+        }
+    }
+}
+
+// A room of a row: how many of a buffer's bytes are lent.
+fn room(line: &[u8], number: usize, buf: &[u8; 16]) -> usize
+    ensures { Counts result buf.now }
+{
+    let all: &[u8] = buf;
+    let n = lines::size(line, number);
+    if n < all.len() { n } else { all.len() }
+}
+
+fn ask(line: &[u8], ty: &[u32], words: &[u64], pool: &[u8], s: &[u8]) {
+    let mut lower = [0xeeu8; 16];
+    let mut upper = [0xeeu8; 16];
+    let low = room(line, 4, &lower);
+    let high = room(line, 5, &upper);
+    let r = key::starting_with(ty, words, pool, s, &mut lower[..low], &mut upper[..high]);
+    answer(r, &lower, &upper);
+}
+
+fn with_type(line: &[u8], ty: &[u32]) {
+    let mut words = [0; 8192];
+    let mut pool = [0; 72000];
+    let mut start = [0; 72000];
+    let w = lines::words(line, 1, &mut words);
+    let p = lines::bytes(line, 2, &mut pool);
+    let n = lines::bytes(line, 3, &mut start);
+    ask(line, ty, &words[..w], &pool[..p], &start[..n]);
+}
+
+fn heading(line: &[u8]) -> bool {
+    if line.len() == 0 {
+        return true;
+    }
+    line[0] == b'#'
+}
+
+fn row(line: &[u8]) {
+    let mut ty = [0; format::MAX_TYPE_WORDS + 1];
+    show::text(line);
+    if heading(line) {
+        show::text(b"\n");
+        return;
+    }
+    let t = lines::types(line, 0, &mut ty);
+    with_type(line, &ty[..t]);
+}
+
+pub fn rows(table: &[u8]) {
+    let mut at: usize = 0;
+    while at < table.len() {
+        let end = lines::find(table, at, b'\n');
+        row(&table[at..end]);
+        at = end + 1;
+    }
+}

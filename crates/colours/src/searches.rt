@@ -1,0 +1,246 @@
+// Names under two tags, 0A and 0A 00, that begin with given bytes: by tank those whose keys lie between the ends, beside what their bytes say; then the same with
+// wrong ends.
+use crate::names;
+use blocks::Order;
+use encode::Encoded;
+use format::Length;
+use key::Bounded;
+
+// How many names lie between the ends, how many do not, and of how many their bytes say otherwise.
+#[derive(Drop)]
+struct Tally {
+    inside: u64,
+    outside: u64,
+    otherwise: u64,
+}
+
+fn counted(t: Tally, lies: bool, begins: bool) -> Tally {
+    let mut u = t;
+    if lies {
+        u.inside = std::num::wrapping_add_u64(u.inside, 1);
+    } else {
+        u.outside = std::num::wrapping_add_u64(u.outside, 1);
+    }
+    if lies != begins {
+        u.otherwise = std::num::wrapping_add_u64(u.otherwise, 1);
+    }
+    u
+}
+
+fn tally_line(t: Tally) {
+    show::text(b"    ");
+    show::number(t.inside);
+    show::text(b" in, ");
+    show::number(t.outside);
+    show::text(b" out, ");
+    if t.otherwise == 0 {
+        show::text(b"all as by their beginnings\n");
+        return;
+    }
+    show::number(t.otherwise);
+    show::text(b" not as by their beginnings\n");
+}
+
+fn at_or_above(key: &[u8], end: &[u8]) -> bool {
+    match blocks::compare(key, end) {
+        Order::Less => false,
+        Order::Equal => true,
+        Order::Greater => true,
+    }
+}
+
+// Does the key of a record lie between the ends? A refused one is printed.
+fn record_in(kind: u32, words: &[u64], pool: &[u8], lower: &[u8], upper: &[u8]) -> bool {
+    let mut out = [0u8; 32];
+    match encode::encode_key(&[5, 2, 3, 7, kind], words, pool, &mut out) {
+        Encoded::Refused(no, detail) => {
+            show::refusal(no, detail);
+            false
+        }
+        Encoded::Done { length, zeros: _ } => {
+            let key = show::first(&out, length);
+            at_or_above(key, lower) && !at_or_above(key, upper)
+        }
+    }
+}
+
+// A record's pool: the tag, and the name behind it. None where there is no room for both.
+fn join(tag: &[u8], name: &[u8], pool: &mut [u8]) -> usize {
+    let n = tag.len();
+    let end = name.len();
+    if pool.len() < n {
+        return 0;
+    }
+    if pool.len() - n < end {
+        return 0;
+    }
+    blocks::copy_to(pool, 0, tag, 0, n);
+    blocks::copy_to(pool, n, name, 0, end);
+    n + end
+}
+
+fn lies_in(kind: u32, tag: &[u8], name: &[u8], lower: &[u8], upper: &[u8]) -> bool {
+    if names::blank(name) {
+        return record_in(kind, &[5, 2, 3, tag.len() as u64, 0], tag, lower, upper);
+    }
+    let mut pool = [0u8; 16];
+    let n = join(tag, name, &mut pool);
+    record_in(
+        kind,
+        &[5, 2, 3, tag.len() as u64, kind as u64, name.len() as u64],
+        show::first(&pool, n),
+        lower,
+        upper,
+    )
+}
+
+// What a search is for, by the bytes: the tank's own tag, and a name that begins with s, which a blank never does.
+fn begins_so(tag: &[u8], name: &[u8], first: &[u8], s: &[u8]) -> bool {
+    if names::blank(name) {
+        return false;
+    }
+    tag.len() == first.len() && names::begins(tag, first) && names::begins(name, s)
+}
+
+// Prints a name that lies between the ends, and counts it.
+fn judged(
+    kind: u32,
+    tag: &[u8],
+    name: &[u8],
+    first: &[u8],
+    s: &[u8],
+    lower: &[u8],
+    upper: &[u8],
+    t: Tally,
+) -> Tally {
+    let lies = lies_in(kind, tag, name, lower, upper);
+    if lies {
+        show::text(b" ");
+        names::name(name);
+    }
+    counted(t, lies, begins_so(tag, name, first, s))
+}
+
+// The names of a list, with a slash between two, all under one tag.
+fn tank_line(
+    kind: u32,
+    list: &[u8],
+    tag: &[u8],
+    first: &[u8],
+    s: &[u8],
+    lower: &[u8],
+    upper: &[u8],
+    before: Tally,
+) -> Tally {
+    let mut t = before;
+    let mut at: usize = 0;
+    show::text(b"    tank ");
+    show::bytes(tag, tag.len());
+    show::text(b":");
+    while at <= list.len() {
+        let end = lines::find(list, at, b'/');
+        t = judged(kind, tag, &list[at..end], first, s, lower, upper, t);
+        at = end + 1;
+    }
+    show::text(b"\n");
+    t
+}
+
+fn taken_in(kind: u32, list: &[u8], first: &[u8], s: &[u8], lower: &[u8], upper: &[u8]) {
+    show::bytes(lower, lower.len());
+    show::text(b" to ");
+    show::line(upper, upper.len());
+    let none = Tally {
+        inside: 0,
+        outside: 0,
+        otherwise: 0,
+    };
+    let one = tank_line(kind, list, b"\x0a", first, s, lower, upper, none);
+    let both = tank_line(kind, list, b"\x0a\x00", first, s, lower, upper, one);
+    tally_line(both);
+}
+
+// Up to FF behind the lower end.
+fn to_ff(kind: u32, list: &[u8], first: &[u8], s: &[u8], lower: &[u8]) {
+    let mut upper = [0u8; 32];
+    match ends::above_field(lower, &mut upper) {
+        Length::Refused(no, detail) => show::refusal(no, detail),
+        Length::Done(n) => taken_in(kind, list, first, s, lower, show::first(&upper, n)),
+    }
+}
+
+fn to_strinc(kind: u32, list: &[u8], first: &[u8], s: &[u8], lower: &[u8]) {
+    let mut upper = [0u8; 32];
+    match ends::strinc(lower, &mut upper) {
+        Length::Refused(no, detail) => show::refusal(no, detail),
+        Length::Done(n) => taken_in(kind, list, first, s, lower, show::first(&upper, n)),
+    }
+}
+
+// Behind the lower end's n bytes the buffer has zeros, so that one byte more keeps the run's end.
+fn wrong_ends(kind: u32, list: &[u8], first: &[u8], s: &[u8], buffer: &[u8], n: usize) {
+    let run = show::first(buffer, std::num::wrapping_add_usize(n, 1));
+    show::text(b"  FF in place of strinc ");
+    to_ff(kind, list, first, s, show::first(buffer, n));
+    show::text(b"  the run's end kept ");
+    to_strinc(kind, list, first, s, run);
+    show::text(b"  the run's end kept, FF in place of strinc ");
+    to_ff(kind, list, first, s, run);
+}
+
+fn search(kind: u32, list: &[u8], first: &[u8], s: &[u8]) {
+    let mut lower = [0u8; 32];
+    let mut upper = [0u8; 32];
+    names::name(s);
+    show::text(b" of tank ");
+    show::line(first, first.len());
+    show::text(b"  the call ");
+    match key::starting_with(
+        &[5, 2, 3, 7, kind],
+        &[5, 1, 3, first.len() as u64],
+        first,
+        s,
+        &mut lower,
+        &mut upper,
+    ) {
+        Bounded::Refused(no, detail) => show::refusal(no, detail),
+        Bounded::Done(low, high) => {
+            taken_in(
+                kind,
+                list,
+                first,
+                s,
+                show::first(&lower, low),
+                show::first(&upper, high),
+            );
+            wrong_ends(kind, list, first, s, &lower, low);
+        }
+    }
+}
+
+// A search for each beginning of such a list.
+fn each(kind: u32, list: &[u8], first: &[u8], starts: &[u8]) {
+    let mut at: usize = 0;
+    while at <= starts.len() {
+        let end = lines::find(starts, at, b'/');
+        search(kind, list, first, &starts[at..end]);
+        at = end + 1;
+    }
+}
+
+fn colours(list: &[u8]) {
+    each(2, list, b"\x0a", b"re//re\x00/\xc3/\x80");
+    each(2, list, b"\x0a\x00", b"re");
+}
+
+pub fn searches() {
+    show::text(b"colour names\n");
+    colours(b"r/rd/re/re\x00/re\x00\x00/re\x00d/red/reed/rf/\xc3\xa9/\xc3\xa9cru/-");
+    show::text(b"names of bytes\n");
+    each(
+        3,
+        b"/\x0a/\x0a\x00/\x0a\x00\x00/\x0a\x00\xff/\x0a\xff/\x0a\xff\xff/\x0b/\xff/\xff\x00/-",
+        b"\x0a",
+        b"\x0a//\x0a\x00/\x0a\x00\xff/\x0a\xff/\xff\x00",
+    );
+}
