@@ -55,12 +55,13 @@ def main():
         folder = os.path.join(ROOT, name)
         proofs = files(os.path.join(folder, 'proofs'), '.antt')
         specs = files(os.path.join(folder, 'specs'), '.antt')
-        laws = [p for p in proofs if not p.endswith('/Proof.antt')]
+        of_functions = [p for p in proofs if os.path.basename(p) in ('Invariants.antt', 'Answers.antt', 'Proof.antt')]
+        laws = [p for p in proofs if p not in of_functions]
         lines = [line for p in proofs for line in read(p)]
         characters = sum(len(x) + 1 for x in lines)
         chains = sum(x.count('.before') for x in lines)
         longest = max([len(x) for x in lines], default=0)
-        row = [code(files(os.path.join(folder, 'src'), '.rt')), text(specs), text(laws), text([p for p in proofs if p.endswith('/Proof.antt')]),
+        row = [code(files(os.path.join(folder, 'src'), '.rt')), text(specs), text(laws), text(of_functions),
                characters, chains, sum(len(x) > 300 for x in lines), sum(len(x) > 600 for x in lines), by_cases(specs + proofs, 'Ty'), by_cases(specs + proofs, 'Val')]
         total = [a + b for a, b in zip(total, row)]
         longest_of_all = max(longest_of_all, longest)
