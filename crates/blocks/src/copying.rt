@@ -23,13 +23,14 @@ pub fn copy_to(dst: &mut [u8], o: usize, src: &[u8], i: usize, e: usize)
 // As many bytes as are copied at once. The C library's memmove takes a slower way for 4,096 and more on some processors.
 const BLOCK: usize = 2048;
 
-// Copies src[i..i + n] to the same place of dst, by way of an array: it overlaps neither, so the compiler makes one memmove of both copies, and no array.
+// Copies src[i..i + n] to the same place of dst, by way of an array: it overlaps neither, and both copies count from 0 to n, so the compiler makes one memmove of
+// both, and no array.
 fn copy_block(dst: &mut [u8], src: &[u8], i: usize, n: usize)
     requires { (n ≤ 2048) × (i + n ≤ length src.now) × (i + n ≤ length dst.old) }
     ensures { dst.new ≡ put dst.old i (slice i (i + n) src.now) }
 {
     let mut block: [u8; BLOCK] = [0; BLOCK];
-    copy_to(&mut block, 0, src, i, i + n);
+    copy_to(&mut block, 0, &src[i..i + n], 0, n);
     copy_to(dst, i, &block, 0, n);
 }
 

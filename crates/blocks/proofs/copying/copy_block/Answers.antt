@@ -1,15 +1,27 @@
 -- What was put into the array stands at its front, and is what the second copy puts.
-use mathlib.Core.Path.{◌≡◌, ◌∙◌}
-use Prim.Native.Nat.{◌+◌}
+use mathlib.Core.Path.{◌≡◌, ◌∙◌, ap}
+use mathlib.Core.List.{List}
+use Prim.Native.Nat.{ℕ, ◌+◌, ◌-◌, ◌≤◌}
 use native.Mathlib.Omega.{arith}
-use lib.ListN.{length}
+use lib.ListN.{length, take, drop}
 use lib.Seq.{slice, length-slice}
+use Rattle.std.proofs.lemmas.List.{take_all, drop-take}
+use Rattle.format.specs.Fields.{put}
 use Rattle.blocks.proofs.Put.{put_begins}
 use Rattle.blocks.proofs.copying.copy_block.Goals as goal
 
+-- the part of a list that a range names is the part between its ends
+part_between : (i n : ℕ) (s : List ℕ) → take (i + n - i) (drop i s) ≡ slice i (i + n) s
+part_between i n s =
+    let e : i + n - i ≡ n = omega arith in
+    rw (e, drop-take i n s)
+
+-- all of a part, put in front, stands in front
+part_put : (d s : List ℕ) (i n : ℕ) {m : List ℕ} → i + n ≤ length s → m ≡ put d 0 (slice 0 n (take (i + n - i) (drop i s))) → slice 0 n m ≡ slice i (i + n) s
+part_put d s i n h e =
+    let l : length (slice i (i + n) s) ≡ n = length-slice i (i + n) s h ∙ (omega arith) in
+    let all = take_all n (slice i (i + n) s) (omega arith) in
+    put_begins d (slice i (i + n) s) (e ∙ ap (put d 0) (ap (slice 0 n) (part_between i n s) ∙ all)) l
+
 pub returns : goal.returns
-returns c =
-    let a = c.args in
-    let s = slice a.i (a.i + a.n) a.src.now in
-    let n : length s ≡ a.n = length-slice a.i (a.i + a.n) a.src.now (omega arith) ∙ (omega arith) in
-    rw (put_begins _ s c.copy_to.ensures n) at c.copy_to-2.ensures
+returns c = rw (part_put _ c.args.src.now c.args.i c.args.n (omega arith) c.copy_to.ensures) at c.copy_to-2.ensures
