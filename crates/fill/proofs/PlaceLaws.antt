@@ -1,5 +1,6 @@
 -- What stands at a place of a key, by its first byte, and words put before others.
-use Rattle.std.proofs.Common.{◌≡◌, ℕ, ◌+◌, ◌<◌, ◌≤◌, Bool, true, false, ltb, List, [], ◌∷◌, ◌++◌, length, get_or, take, drop, set, sym, ap, ◌∙◌, append_assoc, add_assoc, arith, length-append, length-drop, length-set, length-take-le, take-take, get_or-append-add, drop_at}
+use Rattle.std.proofs.Common.{◌≡◌, ℕ, ◌+◌, ◌<◌, ◌≤◌, Bool, true, false, ltb, List, [], ◌∷◌, ◌++◌, length, get_or}
+use Rattle.std.proofs.Common.{take, drop, set, sym, ap, ◌∙◌, append_assoc, add_assoc, arith, length-append, length-drop, length-set, length-take-le, take-take, get_or-append-add, drop_at}
 use lib.Seq.{take-append-le}
 use Rattle.format.specs.Answer.{if}
 use Rattle.format.specs.Tree.{Val, val_kind}

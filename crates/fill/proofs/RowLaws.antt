@@ -1,5 +1,6 @@
 -- Laws of the walk over fields and groups: one for each way out of it.
-use Rattle.std.proofs.Common.{◌≡◌, ℕ, ◌+◌, ◌-◌, ◌<◌, ◌≤◌, Bool, true, false, not, ltb, ◌≢◌, List, [], ◌∷◌, ◌++◌, length, get_or, drop, sym, refl, ap, ◌∙◌, append_assoc, append-nil, add-zero, arith, length-append, length-drop, drop-drop, drop_at, lt-ltb, ne_eqb, eqb-true}
+use Rattle.std.proofs.Common.{◌≡◌, ℕ, ◌+◌, ◌-◌, ◌<◌, ◌≤◌, Bool, true, false, not, ltb, ◌≢◌, List, [], ◌∷◌, ◌++◌, length}
+use Rattle.std.proofs.Common.{get_or, drop, sym, refl, ap, ◌∙◌, append_assoc, append-nil, add-zero, arith, length-append, length-drop, drop-drop, drop_at, lt-ltb, ne_eqb, eqb-true}
 use Rattle.format.specs.Answer.{if, Answer, and_then}
 use Rattle.format.specs.Tree.{Ty, Tys, Val, Vals, val_kind, number_in, fields_in, payload_in}
 use Rattle.format.specs.Sheet.{val_count, val_words, vals_words, val_pool, vals_pool}

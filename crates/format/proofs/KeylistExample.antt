@@ -24,10 +24,12 @@ output =
     ∷ 0x33 ∷ 0x09 ∷ 0x31 ∷ 0x09 ∷ 0x30 ∷ 0x09 ∷ 0x31 ∷ 0x0A ∷ []
 
 pub example : keylist input ≡ output
-unfolding keylist lines_of parts_of decimal_from word_of words_of type_in hex_digit key_in digits decimal row key_rows any_type one_type types type_at type_of number get_big width_is get_uint get_int starts_ff ends_here get_run decode decode_bare decode_key whole check_key_call get_bytes width count_leading_zeros
+unfolding keylist lines_of parts_of decimal_from word_of words_of type_in hex_digit key_in digits decimal row key_rows any_type one_type types
+    type_at type_of number get_big width_is get_uint get_int starts_ff ends_here get_run decode decode_bare decode_key whole check_key_call get_bytes width count_leading_zeros
 example = refl
 
 -- an optional Int and its blank: one value begun
 pub blank_line : keylist (0x37 ∷ 0x09 ∷ 0x31 ∷ 0x0A ∷ 0x30 ∷ 0x30 ∷ 0x0A ∷ []) ≡ 0x31 ∷ 0x09 ∷ 0x30 ∷ 0x09 ∷ 0x30 ∷ 0x09 ∷ 0x31 ∷ 0x0A ∷ []
-unfolding keylist lines_of parts_of decimal_from word_of words_of type_in hex_digit key_in digits decimal row key_rows any_type one_type types type_at type_of number get_big width_is get_uint get_int starts_ff ends_here get_run decode decode_bare decode_key whole check_key_call get_bytes width count_leading_zeros
+unfolding keylist lines_of parts_of decimal_from word_of words_of type_in hex_digit key_in digits decimal row key_rows any_type one_type types
+    type_at type_of number get_big width_is get_uint get_int starts_ff ends_here get_run decode decode_bare decode_key whole check_key_call get_bytes width count_leading_zeros
 blank_line = refl

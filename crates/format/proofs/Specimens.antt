@@ -48,5 +48,6 @@ specimens =
     ∷ []
 
 pub specimens_agree : map computed specimens ≡ map stated specimens
-unfolding encode encode_key key_bytes fits fits_ref val_bytes be width count_leading_zeros uint_bytes neg_bytes int_bytes escaped text_from first_char field_count val_count in_union decode decode_bare decode_key whole number get_big width_is get_uint get_neg get_int starts_ff ends_here get_run get_str get_ref union_end
+unfolding encode encode_key key_bytes fits fits_ref val_bytes be width count_leading_zeros uint_bytes neg_bytes int_bytes escaped text_from first_char field_count
+    val_count in_union decode decode_bare decode_key whole number get_big width_is get_uint get_neg get_int starts_ff ends_here get_run get_str get_ref union_end
 specimens_agree = refl

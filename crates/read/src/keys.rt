@@ -9,7 +9,7 @@ use crate::values::walk_fields;
 // A key of a record type, with what is left over. The record's own two words count, and no value is begun for it.
 pub fn walk_bare(ty: &[u32], bytes: &[u8]) -> Walked
     requires typed { TypeAt ty.now 0 }
-    requires record { get_or ty.now 0 0 ≡ 5 }
+    requires record_type { get_or ty.now 0 0 ≡ 5 }
     ensures { BareWalk ty.now bytes.now result }
 {
     let n = ty[1];

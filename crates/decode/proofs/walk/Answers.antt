@@ -3,7 +3,7 @@ use Rattle.decode.proofs.TopLaws as laws
 use Rattle.decode.proofs.walk.Goals as goal
 
 pub walk_bare-requires : goal.walk_bare-requires
-walk_bare-requires c = record { typed = c.requires.type; «record» = c.requires.kind c.if-bare.true }
+walk_bare-requires c = record { typed = c.requires.type; record_type = c.requires.kind c.if-bare.true }
 
 pub returns-then-bare : goal.returns-then-bare
 returns-then-bare c = laws.walked_bare c.if-bare.true c.walk_bare.ensures

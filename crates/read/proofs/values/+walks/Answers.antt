@@ -107,13 +107,25 @@ pub walk_plain-returns-in-Done : goal.walk_plain-returns-in-Done
 walk_plain-returns-in-Done t c = rw c.more.ensures (laws.v_record (in_record (laws.record_opened c.args.bytes.now c.args.i c.args.depth c.requires c.well_formed.0.1 c.if-kind-eq-KIND_RECORD.true c.open_record.ensures) c.in-Done.is) c.walk_fields-r.ensures)
 
 pub walk_plain-returns-then-place-eq0 : goal.walk_plain-returns-then-place-eq0
-walk_plain-returns-then-place-eq0 t c = rw c.bad-then-place-eq0.ensures (laws.v_missing (in_union (laws.union_opened c.args.bytes.now c.args.i c.args.depth c.requires c.well_formed.0.1 c.if-kind-lt-KIND_RECORD.false c.if-kind-eq-KIND_RECORD.false c.open_union.ensures) c.in-Value.is c.alternative-choice.ensures.picks) c.if-place-eq0.true)
+walk_plain-returns-then-place-eq0 t c =
+    rw c.bad-then-place-eq0.ensures (laws.v_missing (in_union (laws.union_opened c.args.bytes.now c.args.i c.args.depth c.requires c.well_formed.0.1 c.if-kind-lt-KIND_RECORD.false c.if-kind-eq-KIND_RECORD.false c.open_union.ensures)
+    c.in-Value.is c.alternative-choice.ensures.picks) c.if-place-eq0.true)
 
 pub walk_plain-overflow_add-i-in-Value : goal.walk_plain-overflow_add-i-in-Value
-walk_plain-overflow_add-i-in-Value t c = omega (arith, (laws.v_union_next (in_union (laws.union_opened c.args.bytes.now c.args.i c.args.depth c.requires c.well_formed.0.1 c.if-kind-lt-KIND_RECORD.false c.if-kind-eq-KIND_RECORD.false c.open_union.ensures) c.in-Value.is c.alternative-choice.ensures.picks) c.if-place-eq0.false).2)
+walk_plain-overflow_add-i-in-Value t c =
+    omega (
+      arith,
+      (laws.v_union_next (in_union (laws.union_opened c.args.bytes.now c.args.i c.args.depth c.requires c.well_formed.0.1 c.if-kind-lt-KIND_RECORD.false c.if-kind-eq-KIND_RECORD.false c.open_union.ensures)
+          c.in-Value.is c.alternative-choice.ensures.picks) c.if-place-eq0.false).2,
+    )
 
 pub walk_plain-overflow_add-depth-in-Value : goal.walk_plain-overflow_add-depth-in-Value
-walk_plain-overflow_add-depth-in-Value t c = omega (arith, (laws.v_union_next (in_union (laws.union_opened c.args.bytes.now c.args.i c.args.depth c.requires c.well_formed.0.1 c.if-kind-lt-KIND_RECORD.false c.if-kind-eq-KIND_RECORD.false c.open_union.ensures) c.in-Value.is c.alternative-choice.ensures.picks) c.if-place-eq0.false).1)
+walk_plain-overflow_add-depth-in-Value t c =
+    omega (
+      arith,
+      (laws.v_union_next (in_union (laws.union_opened c.args.bytes.now c.args.i c.args.depth c.requires c.well_formed.0.1 c.if-kind-lt-KIND_RECORD.false c.if-kind-eq-KIND_RECORD.false c.open_union.ensures)
+          c.in-Value.is c.alternative-choice.ensures.picks) c.if-place-eq0.false).1,
+    )
 
 pub walk_plain-walk_value-r-requires : goal.walk_plain-walk_value-r-requires
 walk_plain-walk_value-r-requires t c =
@@ -121,16 +133,27 @@ walk_plain-walk_value-r-requires t c =
     (omega (arith, c.decreases, laws.at_in c.requires.0, n.0), (n.3, n.2))
 
 pub walk_plain-close_union-requires : goal.walk_plain-close_union-requires
-walk_plain-close_union-requires t c = laws.v_in_key (in_union (laws.union_opened c.args.bytes.now c.args.i c.args.depth c.requires c.well_formed.0.1 c.if-kind-lt-KIND_RECORD.false c.if-kind-eq-KIND_RECORD.false c.open_union.ensures) c.in-Value.is c.alternative-choice.ensures.picks) c.if-place-eq0.false c.walk_value-r.ensures
+walk_plain-close_union-requires t c =
+    laws.v_in_key (in_union (laws.union_opened c.args.bytes.now c.args.i c.args.depth c.requires c.well_formed.0.1 c.if-kind-lt-KIND_RECORD.false c.if-kind-eq-KIND_RECORD.false c.open_union.ensures)
+    c.in-Value.is c.alternative-choice.ensures.picks) c.if-place-eq0.false c.walk_value-r.ensures
 
 pub walk_plain-more-requires-in-Value : goal.walk_plain-more-requires-in-Value
-walk_plain-more-requires-in-Value t c = (omega arith, omega arith, laws.v_union_small (in_union (laws.union_opened c.args.bytes.now c.args.i c.args.depth c.requires c.well_formed.0.1 c.if-kind-lt-KIND_RECORD.false c.if-kind-eq-KIND_RECORD.false c.open_union.ensures) c.in-Value.is c.alternative-choice.ensures.picks) c.if-place-eq0.false c.walk_value-r.ensures _ c.close_union.ensures)
+walk_plain-more-requires-in-Value t c = (
+  omega arith,
+  omega arith,
+  laws.v_union_small (in_union (laws.union_opened c.args.bytes.now c.args.i c.args.depth c.requires c.well_formed.0.1 c.if-kind-lt-KIND_RECORD.false c.if-kind-eq-KIND_RECORD.false c.open_union.ensures)
+      c.in-Value.is c.alternative-choice.ensures.picks) c.if-place-eq0.false c.walk_value-r.ensures _ c.close_union.ensures,
+)
 
 pub walk_plain-returns-in-Refused-open_union : goal.walk_plain-returns-in-Refused-open_union
-walk_plain-returns-in-Refused-open_union t c = rw c.bad-in-Refused-open_union.ensures (laws.v_union_bad (laws.union_opened c.args.bytes.now c.args.i c.args.depth c.requires c.well_formed.0.1 c.if-kind-lt-KIND_RECORD.false c.if-kind-eq-KIND_RECORD.false c.open_union.ensures) c.in-Refused-open_union.is)
+walk_plain-returns-in-Refused-open_union t c =
+    rw c.bad-in-Refused-open_union.ensures (laws.v_union_bad (laws.union_opened c.args.bytes.now c.args.i c.args.depth c.requires c.well_formed.0.1 c.if-kind-lt-KIND_RECORD.false c.if-kind-eq-KIND_RECORD.false c.open_union.ensures)
+    c.in-Refused-open_union.is)
 
 pub walk_plain-returns-else-place-eq0 : goal.walk_plain-returns-else-place-eq0
-walk_plain-returns-else-place-eq0 t c = rw c.more-in-Value.ensures (laws.v_union (in_union (laws.union_opened c.args.bytes.now c.args.i c.args.depth c.requires c.well_formed.0.1 c.if-kind-lt-KIND_RECORD.false c.if-kind-eq-KIND_RECORD.false c.open_union.ensures) c.in-Value.is c.alternative-choice.ensures.picks) c.if-place-eq0.false c.walk_value-r.ensures _ c.close_union.ensures)
+walk_plain-returns-else-place-eq0 t c =
+    rw c.more-in-Value.ensures (laws.v_union (in_union (laws.union_opened c.args.bytes.now c.args.i c.args.depth c.requires c.well_formed.0.1 c.if-kind-lt-KIND_RECORD.false c.if-kind-eq-KIND_RECORD.false c.open_union.ensures)
+    c.in-Value.is c.alternative-choice.ensures.picks) c.if-place-eq0.false c.walk_value-r.ensures _ c.close_union.ensures)
 
 pub walk_value-bounds-ty-at : goal.walk_value-bounds-ty-at
 walk_value-bounds-ty-at t c = omega (arith, laws.at_in c.requires.0)
