@@ -7,12 +7,13 @@ use native.Mathlib.Numerals.{add-one}
 use borrow.Author.Tests.{ne_eqb, lt-ltb, le-leb, lt-leb}
 use lib.ListN.{length, take, drop, get_or, set, length-append, length-take}
 use lib.Seq.{take-suc, take_all, slice, drop-cons, set_at}
-use Rattle.format.specs.Lengths.{Leaves}
+use Rattle.format.specs.Refusals.{Leaves}
 use Rattle.format.specs.Answer.{ok, refused, NoBound, NoRoom}
 use Rattle.format.specs.Bounds.{before, trimmed, raised, raised_or, strinc, above_field}
 use Rattle.format.specs.Calls.{over, written, strinc_call, above_field_call}
 use Rattle.format.specs.Fields.{put}
-use Rattle.format.specs.declared.Length.TheVariants.{Done, Refused}
+use Rattle.format.specs.declared.refusal.Refusal.TheVariants as made
+use Rattle.std.specs.Prelude.{Ok, Err}
 use Rattle.ends.specs.Ends.{Trims}
 
 -- a trailing FF is dropped
@@ -124,7 +125,7 @@ lacks : (out x : List ℕ) (n : ℕ) → length x ≡ n → length out < n → n
 lacks out x n e l f = rw (e, lt-leb n (length out) l, lt-ltb n (2 ^ 64) f)
 
 module _ (p out : List ℕ) (n : ℕ) (t : Trims p n) where
-  pub s_none : n ≡ 0 → Leaves (strinc_call p out) (Refused NoBound 0) out
+  pub s_none : n ≡ 0 → Leaves (strinc_call p out) (Err made.NoBound) out
   unfolding strinc_call strinc
   s_none z = let e : trimmed p ≡ [] = t.left ∙ ap (λ (m : ℕ). take m p) z in rw e (record { answer = refl; left = refl })
 
@@ -136,11 +137,11 @@ module _ (p out : List ℕ) (n : ℕ) (t : Trims p n) where
   raised_long : (n ≡ 0 → ⊥) → length (take (n - 1) p ++ suc (get_or p (n - 1) 0) ∷ []) ≡ n
   raised_long z = let s = t.short in length-append (take (n - 1) p) (suc (get_or p (n - 1) 0) ∷ []) ∙ simp length-take (omega arith)
 
-  pub s_room : (n ≡ 0 → ⊥) → length out < n → n < 2 ^ 64 → Leaves (strinc_call p out) (Refused NoRoom n) out
+  pub s_room : (n ≡ 0 → ⊥) → length out < n → n < 2 ^ 64 → Leaves (strinc_call p out) (Err (made.NoRoom n)) out
   unfolding strinc_call
   s_room z h f = rw (raises z, lacks out (take (n - 1) p ++ suc (get_or p (n - 1) 0) ∷ []) n (raised_long z) h f) (record { answer = refl; left = refl })
 
-  pub s_done : (n ≡ 0 → ⊥) → n ≤ length out → (x : List ℕ) → x ≡ set (put out 0 (slice 0 (n - 1) p)) (n - 1) (get_or p (n - 1) 0 + 1) → Leaves (strinc_call p out) (Done n) x
+  pub s_done : (n ≡ 0 → ⊥) → n ≤ length out → (x : List ℕ) → x ≡ set (put out 0 (slice 0 (n - 1) p)) (n - 1) (get_or p (n - 1) 0 + 1) → Leaves (strinc_call p out) (Ok n) x
   unfolding strinc_call
   s_done z h x e =
       let s = t.short in
@@ -152,11 +153,11 @@ module _ (key out : List ℕ) where
   long : length (above_field key) ≡ length key + 1
   long = length-append key (0xFF ∷ [])
 
-  pub a_room : length out < length key + 1 → length key + 1 < 2 ^ 64 → Leaves (above_field_call key out) (Refused NoRoom (length key + 1)) out
+  pub a_room : length out < length key + 1 → length key + 1 < 2 ^ 64 → Leaves (above_field_call key out) (Err (made.NoRoom (length key + 1))) out
   unfolding above_field_call
   a_room h f = rw (lacks out (above_field key) (length key + 1) long h f) (record { answer = refl; left = refl })
 
-  pub a_done : length key + 1 ≤ length out → (x : List ℕ) → x ≡ set (put out 0 (slice 0 (length key) key)) (length key) 0xFF → Leaves (above_field_call key out) (Done (length key + 1)) x
+  pub a_done : length key + 1 ≤ length out → (x : List ℕ) → x ≡ set (put out 0 (slice 0 (length key) key)) (length key) 0xFF → Leaves (above_field_call key out) (Ok (length key + 1)) x
   unfolding above_field_call
   a_done h x e =
       let si : slice 0 (length key) key ≡ key = take_all (length key) key (omega arith) in

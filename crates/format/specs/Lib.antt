@@ -1,6 +1,6 @@
 -- The definitions, in document 01's order.
 pub mod Answer
-pub mod Lengths
+pub mod Refusals
 pub mod Tree
 pub mod Sheet
 pub mod Utf8

@@ -1,27 +1,10 @@
-// The tuple format: its definitions stand in specs/, the laws about them in proofs/. The code here names the format's constants and what every crate above shares.
+// The tuple format: its definitions stand in specs/, the laws about them in proofs/. The code here names the format's constants and its refusals, which every crate
+// above shares.
 #![tactic(auto)]
 
-ghost use Rattle.std.specs.Prelude.{◌≡◌};
+mod refusal; // refusal.rt: why a call says no
 
-// How far a call came: bytes written, an end, a place or a used length; or a refusal and its detail.
-#[derive(Clone, Copy)]
-pub enum Length {
-    Done(usize),
-    Refused(u32, u64),
-}
-
-// A byte or a type word as a number of 64 bits.
-pub fn wide(x: u8) -> u64
-    ensures { result ≡ x }
-{
-    x as u64
-}
-
-pub fn wide_word(x: u32) -> u64
-    ensures { result ≡ x }
-{
-    x as u64
-}
+pub use refusal::Refusal;
 
 pub const MARK_NULL: u8 = 0x00;
 
@@ -102,44 +85,3 @@ pub const PREDICATE_ID_SIZE: usize = 4;
 pub const MAX_KEY_BYTES: usize = 65535 - PREDICATE_ID_SIZE;
 
 pub const FACT_REF_FIELD_LEN: usize = 9;
-
-// The refusals, by their numbers in document 01.
-pub const UNEXPECTED_EOF: u32 = 1;
-
-pub const UNEXPECTED_MARK: u32 = 2;
-
-pub const UNEXPECTED_TERMINATOR: u32 = 3;
-
-pub const BAD_STRING: u32 = 4;
-
-pub const BAD_INTEGER: u32 = 5;
-
-pub const BAD_RECORD: u32 = 6;
-
-pub const KEY_TOO_LONG: u32 = 7;
-
-pub const FACT_REF_PREDICATE: u32 = 8;
-
-pub const RESERVED_FACT_ID: u32 = 9;
-
-pub const UNKNOWN_DISCRIMINANT: u32 = 10;
-
-pub const TYPE_MISMATCH: u32 = 11;
-
-pub const BAD_UNION: u32 = 12;
-
-pub const OVERFLOW: u32 = 13;
-
-pub const UNDERFLOW: u32 = 14;
-
-pub const BAD_TYPE: u32 = 15;
-
-pub const BAD_VALUE: u32 = 16;
-
-pub const NO_ROOM: u32 = 17;
-
-pub const NO_FIELD: u32 = 18;
-
-pub const NO_BOUND: u32 = 19;
-
-pub const BAD_LINE: u32 = 20;
