@@ -1,6 +1,7 @@
 -- What comparing two values answers, and what the walk over their sheets promises.
 use Rattle.std.specs.Prelude.{◌≡◌, ℕ, zero, suc, ◌+◌, ◌≤◌, List, length, ◌≢◌, slice_index, Result}
-use Rattle.std.specs.Ordering.{Ordering, Equal}
+use Rattle.std.specs.declared.cmp.Ordering.{Ordering}
+use Rattle.std.specs.declared.cmp.Ordering.TheVariants.{Equal}
 use Prim.Native.Nat as maths
 use Rattle.format.specs.Answer.{Answer}
 use Rattle.format.specs.Refusals.{answered_by}
