@@ -4,45 +4,51 @@
 ghost use Rattle.std.specs.Prelude.{◌≡◌, eqb, get_or};
 ghost use Rattle.format.specs.Calls.{encode_typed_call, encode_key_call};
 ghost use Rattle.format.specs.Zeros.{encode_typed_zeros, encode_key_zeros};
-ghost use Rattle.encode.specs.Encoded.{size_in, sized, key_of, Sheets, Accepted, PutKey, Encodes};
+ghost use Rattle.format.specs.Refusals.{answered};
+ghost use Rattle.encode.specs.Encoded.{admitted, size_in, sized, key_of, Sheets, Accepted, PutKey, Encodes};
 
 use fit::Fitted;
+use format::Refusal;
 
-// How many bytes were written, and how many zeros were escaped in them; or a refusal and its detail.
+// How many bytes were written, and how many zeros were escaped in them.
 #[derive(Clone, Copy)]
-pub enum Encoded {
-    Done { length: usize, zeros: usize },
-    Refused(u32, u64),
+pub struct Encoded {
+    pub length: usize,
+    pub zeros: usize,
+}
+
+// Are both sheets admitted? The type's is judged first.
+fn admit(ty: &[u32], words: &[u64], pool: &[u8]) -> Result<(), Refusal>
+    ensures { answered result ≡ admitted ty.now words.now pool.now }
+{
+    if !sheet::admit_type(ty) {
+        return Err(Refusal::BadType);
+    }
+    if !sheet::admit_value(words, pool) {
+        return Err(Refusal::BadValue);
+    }
+    Ok(())
 }
 
 // Encodes a value under its type at the buffer's beginning.
-pub fn encode_typed(ty: &[u32], words: &[u64], pool: &[u8], out: &mut [u8]) -> Encoded
+pub fn encode_typed(
+    ty: &[u32],
+    words: &[u64],
+    pool: &[u8],
+    out: &mut [u8],
+) -> Result<Encoded, Refusal>
     ensures { Encodes encode_typed_call encode_typed_zeros ty.now words.now pool.now out.old result out.new }
 {
-    if !sheet::admit_type(ty) {
-        return Encoded::Refused(format::BAD_TYPE, 0);
+    admit(ty, words, pool)?;
+    let length = fit::fit_value(ty, words, pool, 0, 0, 0, 0, false)?.len;
+    if out.len() < length {
+        return Err(Refusal::NoRoom(length));
     }
-    if !sheet::admit_value(words, pool) {
-        return Encoded::Refused(format::BAD_VALUE, 0);
-    }
-    match fit::fit_value(ty, words, pool, 0, 0, 0, 0, false) {
-        Fitted::Refused(no, detail) => Encoded::Refused(no, detail),
-        Fitted::Fits {
-            at: _,
-            word: _,
-            pool: _,
-            len: n,
-        } => {
-            if out.len() < n {
-                return Encoded::Refused(format::NO_ROOM, n as u64);
-            }
-            let put = write::put_value(words, pool, out, 0, 0, 0, 0);
-            Encoded::Done {
-                length: n,
-                zeros: put.zeros,
-            }
-        }
-    }
+    let put = write::put_value(words, pool, out, 0, 0, 0, 0);
+    Ok(Encoded {
+        length,
+        zeros: put.zeros,
+    })
 }
 
 // Is the top a record? Then its key is its fields bare.
@@ -56,7 +62,7 @@ fn top_bare(ty: &[u32]) -> bool
 }
 
 // Measures a key: a record's fields bare at depth 0, any other type as a whole.
-fn fit_key(ty: &[u32], words: &[u64], pool: &[u8]) -> Fitted
+fn fit_key(ty: &[u32], words: &[u64], pool: &[u8]) -> Result<Fitted, Refusal>
     requires { Sheets ty.now words.now pool.now }
     ensures { size_in result ≡ sized (key_of ty.now words.now pool.now) }
 {
@@ -64,11 +70,11 @@ fn fit_key(ty: &[u32], words: &[u64], pool: &[u8]) -> Fitted
         return fit::fit_value(ty, words, pool, 0, 0, 0, 0, false);
     }
     if words[0] != format::VALUE_RECORD {
-        return Fitted::Refused(format::TYPE_MISMATCH, format::VALUE_RECORD);
+        return Err(Refusal::TypeMismatch(format::KIND_RECORD));
     }
     let count = ty[1];
-    if words[1] != format::wide_word(count) {
-        return Fitted::Refused(format::BAD_RECORD, 0);
+    if words[1] != u64::from(count) {
+        return Err(Refusal::BadRecord);
     }
     fit::fit_fields(ty, words, pool, 2, 2, 0, count, 0, false)
 }
@@ -88,31 +94,22 @@ fn put_key(ty: &[u32], words: &[u64], pool: &[u8], out: &mut [u8]) -> usize
 }
 
 // Encodes a value as a key of its type at the buffer's beginning.
-pub fn encode_key(ty: &[u32], words: &[u64], pool: &[u8], out: &mut [u8]) -> Encoded
+pub fn encode_key(
+    ty: &[u32],
+    words: &[u64],
+    pool: &[u8],
+    out: &mut [u8],
+) -> Result<Encoded, Refusal>
     ensures { Encodes encode_key_call encode_key_zeros ty.now words.now pool.now out.old result out.new }
 {
-    if !sheet::admit_type(ty) {
-        return Encoded::Refused(format::BAD_TYPE, 0);
+    admit(ty, words, pool)?;
+    let length = fit_key(ty, words, pool)?.len;
+    if format::MAX_KEY_BYTES < length {
+        return Err(Refusal::KeyTooLong(length));
     }
-    if !sheet::admit_value(words, pool) {
-        return Encoded::Refused(format::BAD_VALUE, 0);
+    if out.len() < length {
+        return Err(Refusal::NoRoom(length));
     }
-    match fit_key(ty, words, pool) {
-        Fitted::Refused(no, detail) => Encoded::Refused(no, detail),
-        Fitted::Fits {
-            at: _,
-            word: _,
-            pool: _,
-            len,
-        } => {
-            if format::MAX_KEY_BYTES < len {
-                return Encoded::Refused(format::KEY_TOO_LONG, len as u64);
-            }
-            if out.len() < len {
-                return Encoded::Refused(format::NO_ROOM, len as u64);
-            }
-            let zeros = put_key(ty, words, pool, out);
-            Encoded::Done { length: len, zeros }
-        }
-    }
+    let zeros = put_key(ty, words, pool, out);
+    Ok(Encoded { length, zeros })
 }

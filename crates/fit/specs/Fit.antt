@@ -1,7 +1,8 @@
 -- What the measuring walk answers: where type and value end and how long the encoding is, or the refusal.
-use Rattle.std.specs.Prelude.{◌≡◌, Bool, true, List, ℕ, ◌+◌, ◌*◌, ◌≤◌, eqb, length, get_or}
+use Rattle.std.specs.Prelude.{◌≡◌, Bool, true, List, ℕ, ◌+◌, ◌*◌, ◌≤◌, eqb, length, get_or, Result, Ok, Err}
 use Rattle.std.proofs.Math.Seq.{slice}
-use Rattle.format.specs.Answer.{if, Answer, ok, refused}
+use Rattle.format.specs.Answer.{if, Answer, ok, refused, and_then}
+use Rattle.format.specs.Refusals.{number_of, detail_of}
 use Rattle.format.specs.Tree.{Ty, Tys, Alts, Val, Vals}
 use Rattle.format.specs.Sheet.{field_count, alt_count, val_count}
 use Rattle.format.specs.TypeSheet.{nesting, nestings, alt_nestings, max_groups}
@@ -11,8 +12,8 @@ use Rattle.format.specs.Encode.{val_bytes, vals_bytes, fits, fits_all, in_union,
 use Rattle.format.proofs.PlainLaws.{plain_pool, plain_bytes}
 use Rattle.format.proofs.TypePlaces.{TypeIn, TypesIn, AltsIn}
 use Rattle.format.proofs.ValuePlaces.{ValueIn, ValuesIn}
+use Rattle.format.specs.declared.refusal.Refusal.{Refusal}
 use Rattle.fit.specs.declared.Fitted.{Fitted}
-use Rattle.fit.specs.declared.Fitted.TheVariants.{Fits, Refused}
 
 -- ---- what stands at the places
 
@@ -57,55 +58,62 @@ plain_place ty t = if (eqb (get_or ty t 0) 7) (t + 1) t
 
 -- ---- answers
 
-abbrev pub answer_of : Fitted → Answer Unit
-answer_of (Fits at word pool len) = fine
-answer_of (Refused n d) = refused n d
+-- what the walk returns
+abbrev pub Outcome : Type 0
+Outcome = Result Fitted Refusal
+
+abbrev pub answer_of : Outcome → Answer Unit
+answer_of (Ok x) = fine
+answer_of (Err e) = refused (number_of e) (detail_of e)
+
+-- the places behind what fits, and its length
+abbrev pub placed : (at word pool len : ℕ) → Fitted
+placed at word pool len = record { at = at; word = word; pool = pool; len = len }
 
 -- the Int, Str or Bytes with the kind k and the second word x, and a reference that was judged
 abbrev pub leaf_in : (pool : List ℕ) (k x t w p : ℕ) → Fitted
-leaf_in pool k x t w p = Fits (t + 1) (w + 2) (p + plain_pool k x) (length (plain_bytes k x (slice p (p + plain_pool k x) pool)))
+leaf_in pool k x t w p = placed (t + 1) (w + 2) (p + plain_pool k x) (length (plain_bytes k x (slice p (p + plain_pool k x) pool)))
 
-abbrev pub ref_in : Answer Unit → (t w p : ℕ) → Fitted
-ref_in (ok u) t w p = Fits (t + 2) (w + 2) p 9
-ref_in (refused n d) t w p = Refused n d
+abbrev pub ref_in : Answer Unit → (t w p : ℕ) → Answer Fitted
+ref_in a t w p = and_then a (λ u. ok (placed (t + 2) (w + 2) p 9))
 
-abbrev pub len_of : Fitted → ℕ
-len_of (Fits at word pool len) = len
-len_of (Refused n d) = 0
+abbrev pub len_of : Outcome → ℕ
+len_of (Ok x) = x.len
+len_of (Err e) = 0
 
-abbrev pub longer : ℕ → Fitted → Fitted
-longer k (Fits at word pool len) = Fits at word pool (len + k)
-longer k (Refused n d) = Refused n d
+abbrev pub longer : ℕ → Outcome → Outcome
+longer k (Ok x) = Ok (placed x.at x.word x.pool (x.len + k))
+longer k (Err e) = Err e
 
 -- where it fits, these are the ends of words and pool and the length; the place in the type is its end where that is asked for
-abbrev pub EndsAt : Bool → (e f g n : ℕ) → Fitted → Type 0
-EndsAt asked e f g n (Fits at word pool len) = (asked ≡ true → at ≡ e) × (word ≡ f) × (pool ≡ g) × (len ≡ n)
-EndsAt asked e f g n (Refused m d) = Unit {0}
+abbrev pub EndsAt : Bool → (e f g n : ℕ) → Outcome → Type 0
+EndsAt asked e f g n (Ok x) = (asked ≡ true → x.at ≡ e) × (x.word ≡ f) × (x.pool ≡ g) × (x.len ≡ n)
+EndsAt asked e f g n (Err d) = Unit {0}
 
 -- what the walk says of what stands there: a of the refusal, and of the ends and the length
-pub record Says (a : Answer Unit) (asked : Bool) (e f g n : ℕ) (r : Fitted) : Type 0 where
+pub record Says (a : Answer Unit) (asked : Bool) (e f g n : ℕ) (r : Outcome) : Type 0 where
   pub answer : answer_of r ≡ a
   pub ends : EndsAt asked e f g n r
 
 -- where it fits, the length is at most 6 for each word that was passed, and 2 for each byte: so no sum is too large
-abbrev pub Brief : (words pool : List ℕ) (w p : ℕ) → Fitted → Type 0
-Brief words pool w p (Fits at word end len) = (w ≤ word) × (word ≤ length words) × (p ≤ end) × (end ≤ length pool) × (len + (6 * w + 2 * p) ≤ 6 * word + 2 * end)
-Brief words pool w p (Refused n d) = Unit {0}
+abbrev pub Brief : (words pool : List ℕ) (w p : ℕ) → Outcome → Type 0
+Brief words pool w p (Ok x) = (w ≤ x.word) × (x.word ≤ length words) × (p ≤ x.pool) × (x.pool ≤ length pool) × (x.len + (6 * w + 2 * p) ≤ 6 * x.word + 2 * x.pool)
+Brief words pool w p (Err e) = Unit {0}
 
 -- ---- what each walk promises
 
 -- whatever type and value stand at the places
-pub record FitValue (ty words pool : List ℕ) (t w p depth : ℕ) (asked : Bool) (r : Fitted) : Type 0 where
+pub record FitValue (ty words pool : List ℕ) (t w p depth : ℕ) (asked : Bool) (r : Outcome) : Type 0 where
   pub brief : Brief words pool w p r
   pub says : (T : Ty) (v : Val) (e f g : ℕ) → Pair ty words pool t w p T v e f g → Says (fits T depth v) asked e f g (length (val_bytes depth v)) r
 
 -- whatever n types and n values in a row
-pub record FitFields (ty words pool : List ℕ) (t w p n depth : ℕ) (asked : Bool) (r : Fitted) : Type 0 where
+pub record FitFields (ty words pool : List ℕ) (t w p n depth : ℕ) (asked : Bool) (r : Outcome) : Type 0 where
   pub brief : Brief words pool w p r
   pub says : (ts : Tys) (vs : Vals) (e f g : ℕ) → Row ty words pool t w p n ts vs e f g → Says (fits_all ts depth vs) asked e f g (length (vals_bytes depth vs)) r
 
 -- what a union with a tag makes of its payload's answer r, with `left` alternatives behind the payload's type
-pub record Closed (ty : List ℕ) (tag left : ℕ) (asked : Bool) (r s : Fitted) : Type 0 where
+pub record Closed (ty : List ℕ) (tag left : ℕ) (asked : Bool) (r s : Outcome) : Type 0 where
   pub brief : (words pool : List ℕ) (w p : ℕ) → Brief words pool (w + 2) p r → Brief words pool w p s
   pub says : (a : Answer Unit) (m f g n : ℕ) (us : Alts) (e : ℕ) → Says a asked m f g n r → AltsIn ty m us e → alt_count us ≡ left → alt_nestings us ≤ max_groups
       → Says (in_union tag a) asked e f g (n + (2 + length (uint_bytes tag))) s

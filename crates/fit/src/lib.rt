@@ -4,21 +4,19 @@
 ghost use Rattle.std.specs.Prelude.{◌≡◌, ◌+◌, ◌≤◌, ◌<◌, ◌^◌, length, get_or};
 ghost use Rattle.format.specs.ValueSheet.{max_value_words};
 ghost use Rattle.format.specs.Encode.{fits_ref, null_bytes};
+ghost use Rattle.format.specs.Refusals.{answered};
 ghost use Rattle.format.proofs.PlainLaws.{plain_pool};
 ghost use Rattle.fit.specs.Fit.{plain_place, leaf_in, ref_in, longer, len_of, Standing, StandingRow, Closed, FitValue, FitFields};
 
-use scalar::Judged;
+use format::Refusal;
 
-// It fits: the places behind it in type, words and pool, and the length of its encoding. Or a refusal and its detail.
+// What fits: the places behind it in type, words and pool, and the length of its encoding.
 #[derive(Clone, Copy)]
-pub enum Fitted {
-    Fits {
-        at: usize,
-        word: usize,
-        pool: usize,
-        len: usize,
-    },
-    Refused(u32, u64),
+pub struct Fitted {
+    pub at: usize,
+    pub word: usize,
+    pub pool: usize,
+    pub len: usize,
 }
 
 // An Int, or a Str or Bytes with its bytes of the pool.
@@ -27,7 +25,7 @@ fn fit_leaf(pool: &[u8], kind: u32, x: u64, t: usize, w: usize, p: usize) -> Fit
     ensures { result ≡ leaf_in pool.now kind x t w p }
 {
     if kind == format::KIND_INT {
-        return Fitted::Fits {
+        return Fitted {
             at: t + 1,
             word: w + 2,
             pool: p,
@@ -35,7 +33,7 @@ fn fit_leaf(pool: &[u8], kind: u32, x: u64, t: usize, w: usize, p: usize) -> Fit
         };
     }
     let end = p + x as usize;
-    Fitted::Fits {
+    Fitted {
         at: t + 1,
         word: w + 2,
         pool: end,
@@ -44,68 +42,50 @@ fn fit_leaf(pool: &[u8], kind: u32, x: u64, t: usize, w: usize, p: usize) -> Fit
 }
 
 // A reference, judged.
-fn fit_ref(predicate: u32, raw: u64, t: usize, w: usize, p: usize) -> Fitted
+fn fit_ref(predicate: u32, raw: u64, t: usize, w: usize, p: usize) -> Result<Fitted, Refusal>
     requires { (t + 2 < 2 ^ 64) × (w + 2 < 2 ^ 64) }
-    ensures { result ≡ ref_in (fits_ref predicate raw) t w p }
+    ensures { answered result ≡ ref_in (fits_ref predicate raw) t w p }
 {
-    match scalar::judge(predicate, raw) {
-        Judged::Refused(no, detail) => Fitted::Refused(no, detail),
-        Judged::Fits => Fitted::Fits {
-            at: t + 2,
-            word: w + 2,
-            pool: p,
-            len: format::FACT_REF_FIELD_LEN,
-        },
-    }
+    scalar::judge(predicate, raw)?;
+    Ok(Fitted {
+        at: t + 2,
+        word: w + 2,
+        pool: p,
+        len: format::FACT_REF_FIELD_LEN,
+    })
 }
 
 // What a record makes of its fields' answer: its mark and its end are two bytes more.
-fn in_record(r: Fitted) -> Fitted
-    requires { len_of r < 2 ^ 32 }
-    ensures { result ≡ longer 2 r }
+fn in_record(fields: Result<Fitted, Refusal>) -> Result<Fitted, Refusal>
+    requires { len_of fields < 2 ^ 32 }
+    ensures { result ≡ longer 2 fields }
 {
-    match r {
-        Fitted::Fits {
-            at,
-            word,
-            pool,
-            len,
-        } => Fitted::Fits {
-            at,
-            word,
-            pool,
-            len: len + 2,
-        },
-        Fitted::Refused(no, detail) => Fitted::Refused(no, detail),
-    }
+    let row = fields?;
+    Ok(Fitted {
+        len: row.len + 2,
+        ..row
+    })
 }
 
 // What a union makes of its payload's answer: the end of its alternatives, where that is asked for, and its tag; or the refusal, BadRecord and TypeMismatch as BadUnion.
-fn in_union(ty: &[u32], r: Fitted, tag: u64, left: u32, asked: bool) -> Fitted
-    requires { len_of r < 2 ^ 32 }
-    ensures { Closed ty.now tag left asked r result }
+fn in_union(
+    ty: &[u32],
+    payload: Result<Fitted, Refusal>,
+    tag: u64,
+    left: u32,
+    asked: bool,
+) -> Result<Fitted, Refusal>
+    requires { len_of payload < 2 ^ 32 }
+    ensures { Closed ty.now tag left asked payload result }
 {
-    match r {
-        Fitted::Fits {
-            at,
-            word,
-            pool,
-            len,
-        } => Fitted::Fits {
-            at: sheet::union_end(ty, at, left, asked),
-            word,
-            pool,
-            len: len + (2 + scalar::ints::uint_len(tag)),
-        },
-        Fitted::Refused(no, detail) => {
-            if no == format::BAD_RECORD {
-                return Fitted::Refused(format::BAD_UNION, tag);
-            }
-            if no == format::TYPE_MISMATCH {
-                return Fitted::Refused(format::BAD_UNION, tag);
-            }
-            Fitted::Refused(no, detail)
-        }
+    match payload {
+        Ok(inner) => Ok(Fitted {
+            at: sheet::union_end(ty, inner.at, left, asked),
+            len: inner.len + (2 + scalar::ints::uint_len(tag)),
+            ..inner
+        }),
+        Err(Refusal::BadRecord | Refusal::TypeMismatch(_)) => Err(Refusal::BadUnion(tag)),
+        Err(why) => Err(why),
     }
 }
 
@@ -141,23 +121,22 @@ fn fit_other(
     p: usize,
     depth: u32,
     asked: bool,
-) -> Fitted
+) -> Result<Fitted, Refusal>
     requires { Standing ty.now words.now pool.now t w p × (get_or words.now w 0 ≡ get_or ty.now (plain_place ty.now t) 0 → ⊥) }
     ensures { FitValue ty.now words.now pool.now t w p depth asked result }
 {
     if ty[t] != format::KIND_OPTIONAL {
-        return Fitted::Refused(format::TYPE_MISMATCH, format::wide_word(ty[t]));
+        return Err(Refusal::TypeMismatch(ty[t]));
     }
     if words[w] == format::VALUE_NULL {
-        let word = w + 1;
-        return Fitted::Fits {
+        return Ok(Fitted {
             at: sheet::skip_type(ty, t, asked),
-            word,
+            word: w + 1,
             pool: p,
             len: null_len(depth),
-        };
+        });
     }
-    Fitted::Refused(format::TYPE_MISMATCH, format::wide_word(ty[t + 1]))
+    Err(Refusal::TypeMismatch(ty[t + 1]))
 }
 
 // The value at a place of the words under the type at a place of its sheet, its bytes from a place of the pool on. The end of the type is said where it is asked for.
@@ -171,42 +150,39 @@ pub fn fit_value(
     p: usize,
     depth: u32,
     asked: bool,
-) -> Fitted
+) -> Result<Fitted, Refusal>
     requires { Standing ty.now words.now pool.now t w p }
     ensures { FitValue ty.now words.now pool.now t w p depth asked result }
 {
     let at = plain_place(ty, t);
     let kind = ty[at];
-    if words[w] != format::wide_word(kind) {
+    if words[w] != u64::from(kind) {
         return fit_other(ty, words, pool, t, w, p, depth, asked);
     }
     let x = words[w + 1];
     if kind < format::KIND_FACT {
-        return fit_leaf(pool, kind, x, at, w, p);
+        return Ok(fit_leaf(pool, kind, x, at, w, p));
     }
     let n = ty[at + 1];
     if kind == format::KIND_FACT {
         return fit_ref(n, x, at, w, p);
     }
     if kind == format::KIND_RECORD {
-        if x != format::wide_word(n) {
-            return Fitted::Refused(format::BAD_RECORD, 0);
+        if x != u64::from(n) {
+            return Err(Refusal::BadRecord);
         }
         if format::MAX_RECORD_DEPTH <= depth {
-            return Fitted::Refused(format::BAD_RECORD, 0);
+            return Err(Refusal::BadRecord);
         }
         return in_record(fit_fields(ty, words, pool, at + 2, w + 2, p, n, depth + 1, asked));
     }
     let choice = sheet::alternative(ty, at, x);
-    let place = choice.place;
-    if place == 0 {
-        return Fitted::Refused(format::UNKNOWN_DISCRIMINANT, x);
-    }
+    let place = choice.place.ok_or(Refusal::UnknownDiscriminant(x))?;
     if format::MAX_RECORD_DEPTH <= depth {
-        return Fitted::Refused(format::BAD_UNION, x);
+        return Err(Refusal::BadUnion(x));
     }
-    let r = fit_value(ty, words, pool, place, w + 2, p, depth + 1, asked);
-    in_union(ty, r, x, choice.left, asked)
+    let payload = fit_value(ty, words, pool, place, w + 2, p, depth + 1, asked);
+    in_union(ty, payload, x, choice.left, asked)
 }
 
 // The n fields of a record, from these places on.
@@ -221,38 +197,23 @@ pub fn fit_fields(
     n: u32,
     depth: u32,
     asked: bool,
-) -> Fitted
+) -> Result<Fitted, Refusal>
     requires { StandingRow ty.now words.now pool.now at from start n }
     ensures { FitFields ty.now words.now pool.now at from start n depth asked result }
 {
-    let mut t = at;
-    let mut w = from;
-    let mut p = start;
-    let mut sum: usize = 0;
-    let mut left = n;
-    while 0 < left {
-        match fit_value(ty, words, pool, t, w, p, depth, sheet::asks(left, asked)) {
-            Fitted::Refused(no, detail) => {
-                return Fitted::Refused(no, detail);
-            }
-            Fitted::Fits {
-                at: behind,
-                word,
-                pool: end,
-                len,
-            } => {
-                t = behind;
-                w = word;
-                p = end;
-                sum += len;
-            }
-        }
-        left -= 1;
+    let mut row = Fitted {
+        at,
+        word: from,
+        pool: start,
+        len: 0,
+    };
+    for passed in 0..n {
+        let last = sheet::asks(n - passed, asked);
+        let field = fit_value(ty, words, pool, row.at, row.word, row.pool, depth, last)?;
+        row = Fitted {
+            len: row.len + field.len,
+            ..field
+        };
     }
-    Fitted::Fits {
-        at: t,
-        word: w,
-        pool: p,
-        len: sum,
-    }
+    Ok(row)
 }
