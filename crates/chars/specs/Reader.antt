@@ -7,7 +7,11 @@ use Rattle.format.specs.Chars as chars
 use Rattle.chars.specs.declared.Stepped.{Stepped}
 use Rattle.chars.specs.declared.StrChars.{StrChars}
 
-abbrev pub step_of : Result (Option ℕ) Refusal → chars.Step
+-- what a step gives: a character's code point or the end; or a refusal
+abbrev pub Step : Type 0
+Step = Result (Option ℕ) Refusal
+
+abbrev pub step_of : Step → chars.Step
 step_of (Ok (Some code)) = chars.Step.char code
 step_of (Ok None) = chars.Step.end
 step_of (Err e) = chars.Step.bad (number_of e) (detail_of e)
@@ -35,7 +39,7 @@ pub record Begins (bytes : List ℕ) (r : Result Unit Refusal) (text : List ℕ)
   pub finished : done ≡ closed r
 
 -- one step of a lent reader: what it gives, and the reader afterwards, which holds the same bytes
-pub record Moves (r : StrChars) (t : Result (Option ℕ) Refusal) (r' : StrChars) : Type 0 where
+pub record Moves (r : StrChars) (t : Step) (r' : StrChars) : Type 0 where
   pub gives : step_of t ≡ (chars.step_at r.bytes.now r.at r.done).step
   pub held : r'.bytes ≡ r.bytes
   pub place : r'.at ≡ (chars.step_at r.bytes.now r.at r.done).at

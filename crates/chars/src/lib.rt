@@ -91,13 +91,11 @@ pub fn step_at(s: &[u8], at: usize, done: bool) -> Stepped
     if done {
         return finished(Ok(None), at);
     }
-    if s.len() <= at {
-        return finished(Err(Refusal::UnexpectedEof), at);
+    match s.get(at) {
+        None => finished(Err(Refusal::UnexpectedEof), at),
+        Some(&format::MARK_TERM) => zero_step(s, at),
+        Some(_) => char_step(s, at),
     }
-    if s[at] == format::MARK_TERM {
-        return zero_step(s, at);
-    }
-    char_step(s, at)
 }
 
 // The mark of a string: the work of `str_chars`.
