@@ -1,5 +1,5 @@
 -- A character moves the place behind it: it is at least one byte wide, and within the bytes.
-use mathlib.Core.Path.{refl, ap, sym, ◌∙◌}
+use mathlib.Core.Path.{ap, sym, ◌∙◌}
 use native.Mathlib.Omega.{arith}
 use lib.ListN.{drop}
 use Rattle.format.specs.Utf8.{width_of}
