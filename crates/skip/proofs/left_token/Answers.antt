@@ -1,15 +1,24 @@
--- By the mark: a union, a null, a record too deep, a number cut short, or no mark.
-use Rattle.skip.proofs.Marks as laws
+use Rattle.std.proofs.Common.{rules, ◌≡◌, true, ◌&&◌, ltb, eqb, get_or, ℕ, ◌+◌, ◌-◌, ◌*◌, ◌<◌, ◌≤◌, length, ◌/◌, ◌%◌, Bool, false, List, [], ◌∷◌, ◌++◌, slice_set, bit_and, bit_or, Fits, w8, w32, w64, Bor, MutBor}
+use Rattle.format.specs.Refusals.{answered}
+use Rattle.format.specs.Encode.{max_depth}
+use Rattle.format.specs.Read.{ends_here}
+use Rattle.format.specs.Fields.{taken_from}
+use Rattle.format.specs.Calls.{skip_call}
+use Rattle.skip.specs.Tokens.{token_of, field, number_mark, run_mark, Begins, RunEnds, Left}
 use Rattle.skip.proofs.left_token.Goals as goal
 
-pub returns-then-rest-eq0 : goal.returns-then-rest-eq0
-returns-then-rest-eq0 c = search laws.left_none
+-- src/lib.rt:60:9
+pub returns-in_default : goal.returns-in_default
+returns-in_default c = ?
 
-pub returns-then-mark-eq-MARK_RECORD : goal.returns-then-mark-eq-MARK_RECORD
-returns-then-mark-eq-MARK_RECORD c = search laws.left_deep
+-- src/lib.rt:55:1
+pub returns-in-34 : goal.returns-in-34
+returns-in-34 c = ?
 
-pub returns-then-number_mark : goal.returns-then-number_mark
-returns-then-number_mark c = search laws.left_cut
+-- src/lib.rt:55:1
+pub returns-in_default-mark : goal.returns-in_default-mark
+returns-in_default-mark c = ?
 
-pub returns : goal.returns
-returns c = search laws.left_other
+-- src/lib.rt:55:1
+pub returns-in_default-2 : goal.returns-in_default-2
+returns-in_default-2 c = ?

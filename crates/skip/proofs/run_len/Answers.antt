@@ -1,13 +1,16 @@
--- A run is passed over where `run_end` found its terminator.
-use Rattle.skip.proofs.Plain as laws
-use native.Mathlib.Omega.{arith}
+use Rattle.std.proofs.Common.{rules, ◌≡◌, true, ◌&&◌, ltb, eqb, get_or, ℕ, ◌+◌, ◌-◌, ◌*◌, ◌<◌, ◌≤◌, length, ◌/◌, ◌%◌, Bool, false, List, [], ◌∷◌, ◌++◌, slice_set, bit_and, bit_or, Fits, w8, w32, w64, Bor, MutBor}
+use Rattle.format.specs.Refusals.{answered}
+use Rattle.format.specs.Encode.{max_depth}
+use Rattle.format.specs.Read.{ends_here}
+use Rattle.format.specs.Fields.{taken_from}
+use Rattle.format.specs.Calls.{skip_call}
+use Rattle.skip.specs.Tokens.{token_of, field, number_mark, run_mark, Begins, RunEnds, Left}
 use Rattle.skip.proofs.run_len.Goals as goal
 
-pub run_end-end-requires : goal.run_end-end-requires
-run_end-end-requires c = search laws.run_some
-
+-- src/lib.rt:88:9
 pub returns-then-rest-end : goal.returns-then-rest-end
-returns-then-rest-end c = laws.run_cut _ _ c.run_end-end.ensures (omega arith)
+returns-then-rest-end c = ?
 
+-- src/lib.rt:82:1
 pub returns : goal.returns
-returns c = search laws.run_ends
+returns c = ?

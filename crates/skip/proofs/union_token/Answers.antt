@@ -1,13 +1,20 @@
--- Too deep first; below 256 what opened is what the field opens, one deeper.
-use native.Mathlib.Omega.{arith}
-use Rattle.skip.proofs.Marks as laws
+use Rattle.std.proofs.Common.{rules, ◌≡◌, true, ◌&&◌, ltb, eqb, get_or, ℕ, ◌+◌, ◌-◌, ◌*◌, ◌<◌, ◌≤◌, length, ◌/◌, ◌%◌, Bool, false, List, [], ◌∷◌, ◌++◌, slice_set, bit_and, bit_or, Fits, w8, w32, w64, Bor, MutBor}
+use Rattle.format.specs.Refusals.{answered}
+use Rattle.format.specs.Encode.{max_depth}
+use Rattle.format.specs.Read.{ends_here}
+use Rattle.format.specs.Fields.{taken_from}
+use Rattle.format.specs.Calls.{skip_call}
+use Rattle.skip.specs.Tokens.{token_of, field, number_mark, run_mark, Begins, RunEnds, Left}
 use Rattle.skip.proofs.union_token.Goals as goal
 
+-- src/lib.rt:40:9
 pub returns-then-depth-ge-MAX_RECORD_DEPTH : goal.returns-then-depth-ge-MAX_RECORD_DEPTH
-returns-then-depth-ge-MAX_RECORD_DEPTH c = laws.union_deep c.args.escape c.args.depth c.args.rest.now c.requires (omega arith)
+returns-then-depth-ge-MAX_RECORD_DEPTH c = ?
 
-pub returns-in-Value : goal.returns-in-Value
-returns-in-Value c = search laws.union_passed
+-- src/lib.rt:42:15
+pub returns-in_err-tag : goal.returns-in_err-tag
+returns-in_err-tag c = ?
 
-pub returns-in-Refused : goal.returns-in-Refused
-returns-in-Refused c = search laws.union_refused
+-- src/lib.rt:35:1
+pub returns : goal.returns
+returns c = ?
