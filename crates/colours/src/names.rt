@@ -1,4 +1,6 @@
 // Names as they are printed, and their beginnings by the plain definition. A dash alone is a blank.
+use std::io;
+
 pub fn blank(name: &[u8]) -> bool {
     if name.len() != 1 {
         return false;
@@ -20,20 +22,20 @@ pub fn begins(name: &[u8], s: &[u8]) -> bool {
 }
 
 // A byte that is no printed ASCII in hexadecimal.
-fn letter(b: u8) {
+fn letter(rt: &impl Print, b: u8) -> io::Result<()> {
     let one = [b];
     if b < 0x20 || 0x7e < b {
-        show::text(b"\\x");
+        print!(rt; "\\x")?;
         show::bytes(&one, 1);
     } else {
         show::text(&one);
     }
 }
 
-pub fn name(s: &[u8]) {
-    show::text(b"[");
+pub fn name(rt: &impl Print, s: &[u8]) -> io::Result<()> {
+    print!(rt; "[")?;
     for i in 0..s.len() {
-        letter(s[i]);
+        letter(rt, s[i])?;
     }
-    show::text(b"]");
+    print!(rt; "]")
 }

@@ -3,6 +3,7 @@
 ghost use Rattle.lines.specs.Counts.{Counts};
 
 use key::Bounded;
+use std::io;
 
 // Are the bytes from a place on still EE? There are at most sixteen.
 fn held(s: &[u8], from: usize) -> bool {
@@ -13,24 +14,24 @@ fn held(s: &[u8], from: usize) -> bool {
     blocks::differ_at(rest, &[0xeeu8; 16]) == rest.len()
 }
 
-fn held_both(lower: &[u8], low: usize, upper: &[u8], high: usize) {
+fn held_both(rt: &impl Print, lower: &[u8], low: usize, upper: &[u8], high: usize) -> io::Result<()> {
     if held(lower, low) && held(upper, high) {
-        show::text(b": kept, ");
+        print!(rt; ": kept, ")?;
     } else {
-        show::text(b": changed, ");
+        print!(rt; ": changed, ")?;
     }
 }
 
-fn answer(r: Bounded, lower: &[u8; 16], upper: &[u8; 16]) {
+fn answer(rt: &impl Print, r: Bounded, lower: &[u8; 16], upper: &[u8; 16]) -> io::Result<()> {
     match r {
         Bounded::Refused(no, detail) => {
-            held_both(lower, 0, upper, 0);
+            held_both(rt, lower, 0, upper, 0)?;
             show::refusal(no, detail);
         }
         Bounded::Done(low, high) => {
-            held_both(lower, low, upper, high);
+            held_both(rt, lower, low, upper, high)?;
             show::bytes(lower, low);
-            show::text(b" to ");
+            print!(rt; " to ")?;
             show::line(upper, high);
         }
     }
@@ -45,23 +46,23 @@ fn room(line: &[u8], number: usize, buf: &[u8; 16]) -> usize
     if n < all.len() { n } else { all.len() }
 }
 
-fn ask(line: &[u8], ty: &[u32], words: &[u64], pool: &[u8], s: &[u8]) {
+fn ask(rt: &impl Print, line: &[u8], ty: &[u32], words: &[u64], pool: &[u8], s: &[u8]) -> io::Result<()> {
     let mut lower = [0xeeu8; 16];
     let mut upper = [0xeeu8; 16];
     let low = room(line, 4, &lower);
     let high = room(line, 5, &upper);
     let r = key::starting_with(ty, words, pool, s, &mut lower[..low], &mut upper[..high]);
-    answer(r, &lower, &upper);
+    answer(rt, r, &lower, &upper)
 }
 
-fn with_type(line: &[u8], ty: &[u32]) {
+fn with_type(rt: &impl Print, line: &[u8], ty: &[u32]) -> io::Result<()> {
     let mut words = [0; 8192];
     let mut pool = [0; 72000];
     let mut start = [0; 72000];
     let w = lines::words(line, 1, &mut words);
     let p = lines::bytes(line, 2, &mut pool);
     let n = lines::bytes(line, 3, &mut start);
-    ask(line, ty, &words[..w], &pool[..p], &start[..n]);
+    ask(rt, line, ty, &words[..w], &pool[..p], &start[..n])
 }
 
 fn heading(line: &[u8]) -> bool {
@@ -71,22 +72,22 @@ fn heading(line: &[u8]) -> bool {
     line[0] == b'#'
 }
 
-fn row(line: &[u8]) {
+fn row(rt: &impl Print, line: &[u8]) -> io::Result<()> {
     let mut ty = [0; format::MAX_TYPE_WORDS + 1];
     show::text(line);
     if heading(line) {
-        show::text(b"\n");
+        println!(rt; "")?;
         return;
     }
     let t = lines::types(line, 0, &mut ty);
-    with_type(line, &ty[..t]);
+    with_type(rt, line, &ty[..t])
 }
 
-pub fn rows(table: &[u8]) {
+pub fn rows(rt: &impl Print, table: &[u8]) -> io::Result<()> {
     let mut at: usize = 0;
     while at < table.len() {
         let end = lines::find(table, at, b'\n');
-        row(&table[at..end]);
+        row(rt, &table[at..end])?;
         at = end + 1;
     }
 }
