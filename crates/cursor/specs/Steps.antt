@@ -1,17 +1,13 @@
 -- What each answer of a step means, by cases, and how a field's answer becomes a step's.
-use Rattle.std.specs.Prelude.{◌≡◌, Bool, List, ℕ, ◌+◌, ◌^◌, ◌<◌}
+use Rattle.std.specs.Prelude.{◌≡◌, Bool, List, ℕ, ◌+◌, ◌^◌, ◌<◌, Result}
 use Rattle.format.specs.Answer.{Answer, ok, refused, and_then}
+use Rattle.format.specs.Refusals.{answered, answered_by}
+use Rattle.format.specs.declared.refusal.Refusal.{Refusal}
 use Rattle.format.specs.Fields.{Taken as TakenField, Place, in_key, in_scratch, part_of}
 use Rattle.format.specs.Cursor as cursor
+use Rattle.scalar.specs.Answers.{place_of}
+use Rattle.scalar.specs.declared.payloads.Place.{Place as FoundPlace}
 use Rattle.cursor.specs.declared.Cursor.{Cursor}
-use Rattle.cursor.specs.declared.Moved.{Moved}
-use Rattle.cursor.specs.declared.Moved.TheVariants.{To, Refused as NoMove}
-use Rattle.cursor.specs.declared.reading.Taken.{Taken}
-use Rattle.cursor.specs.declared.reading.Taken.TheVariants.{Value, Refused as NoValue}
-use Rattle.cursor.specs.declared.reading.TakenPart.{TakenPart}
-use Rattle.cursor.specs.declared.reading.TakenPart.TheVariants.{InKey, InScratch, Refused as NoPart}
-use Rattle.cursor.specs.declared.reading.RecordEnd.{RecordEnd}
-use Rattle.cursor.specs.declared.reading.RecordEnd.TheVariants.{Is, Refused as NoEnd}
 
 abbrev pub cursor_of : Cursor → cursor.Cursor
 cursor_of c = record { at = c.at; depth = c.depth }
@@ -19,39 +15,33 @@ cursor_of c = record { at = c.at; depth = c.depth }
 -- ---- the answers by document 01's numbers
 
 -- a number, and the cursor behind it
-abbrev pub taken_of : Taken → Answer (cursor.Moved ℕ)
-taken_of (Value v c) = ok (record { value = v; next = cursor_of c })
-taken_of (NoValue n d) = refused n d
+abbrev pub taken_of : Result (ℕ × Cursor) Refusal → Answer (cursor.Moved ℕ)
+taken_of = answered_by (λ t. record { value = t.0; next = cursor_of t.1 })
 
 -- the cursor behind what has no value
-abbrev pub moved_of : Moved → Answer (cursor.Moved Unit)
-moved_of (To c) = ok (record { value = tt; next = cursor_of c })
-moved_of (NoMove n d) = refused n d
+abbrev pub moved_of : Result Cursor Refusal → Answer (cursor.Moved Unit)
+moved_of = answered_by (λ c. record { value = tt; next = cursor_of c })
 
 -- a payload's place, and the cursor behind it
-abbrev pub part_answer : TakenPart → Answer (cursor.Moved Place)
-part_answer (InKey at len c) = ok (record { value = in_key at len; next = cursor_of c })
-part_answer (InScratch len c) = ok (record { value = in_scratch len; next = cursor_of c })
-part_answer (NoPart n d) = refused n d
+abbrev pub part_answer : Result (FoundPlace × Cursor) Refusal → Answer (cursor.Moved Place)
+part_answer = answered_by (λ t. record { value = place_of t.0; next = cursor_of t.1 })
 
-abbrev pub end_of : RecordEnd → Answer Bool
-end_of (Is b) = ok b
-end_of (NoEnd n d) = refused n d
+abbrev pub end_of : Result Bool Refusal → Answer Bool
+end_of = answered
 
 -- the cursor behind what was written
-abbrev pub wrote_of : Moved → Answer cursor.Cursor
-wrote_of (To c) = ok (cursor_of c)
-wrote_of (NoMove n d) = refused n d
+abbrev pub wrote_of : Result Cursor Refusal → Answer cursor.Cursor
+wrote_of = answered_by cursor_of
 
 -- ---- what a step leaves
 
 -- the answer and the scratch buffer are those of a definition's step
-pub record Hands (p : cursor.MovedPayload) (r : TakenPart) (scratch : List ℕ) : Type 0 where
+pub record Hands (p : cursor.MovedPayload) (r : Result (FoundPlace × Cursor) Refusal) (scratch : List ℕ) : Type 0 where
   pub answer : part_answer r ≡ p.answer
   pub left : scratch ≡ p.scratch
 
 -- the answer and the buffer are those of a definition's step
-pub record StepLeaves (w : cursor.Wrote) (r : Moved) (buffer : List ℕ) : Type 0 where
+pub record StepLeaves (w : cursor.Wrote) (r : Result Cursor Refusal) (buffer : List ℕ) : Type 0 where
   pub answer : wrote_of r ≡ w.answer
   pub left : buffer ≡ w.buffer
 

@@ -4,20 +4,24 @@
 mod reading;
 mod writing;
 
-ghost use Rattle.std.specs.Prelude.{◌≡◌};
+ghost use Rattle.std.specs.Prelude.{◌≡◌, ◌+◌, ◌-◌, ltb, eqb};
+ghost use Rattle.format.specs.Answer.{if, ok, refused, BadRecord};
+ghost use Rattle.format.specs.Refusals.{answered};
+ghost use Rattle.format.specs.Encode.{max_depth};
 ghost use Rattle.format.specs.Cursor.{deep};
 ghost use Rattle.cursor.specs.Steps.{cursor_of};
 
+use format::Refusal;
 pub use reading::{
-    RecordEnd, Taken, TakenPart, close, is_record_end, open_record, open_union, payload, remaining,
-    take_bytes, take_fact_id, take_i64, take_null, take_str, take_u64,
+    close, is_record_end, open_record, open_union, payload, remaining, take_bytes, take_fact_id,
+    take_i64, take_null, take_str, take_u64,
 };
 pub use writing::{
     put_bytes, put_end, put_fact_id, put_i64, put_null, put_record, put_str, put_u64, put_union,
 };
 
 // A place in the bytes and how many groups are open. Any place and any depth will do: past the end nothing is left, and a depth over 256 is 256.
-#[derive(Clone, Copy)]
+#[derive(Clone, Copy, Debug, PartialEq, Eq, Default)]
 pub struct Cursor {
     pub at: usize,
     pub depth: u32,
@@ -38,20 +42,19 @@ impl Cursor {
     }
 }
 
-// The cursor behind a step that took or wrote no value of its own; or a refusal and its detail.
-#[derive(Clone, Copy)]
-pub enum Moved {
-    To(Cursor),
-    Refused(u32, u64),
-}
-
 // How many groups are open.
 fn depth_of(c: Cursor) -> u32
     ensures { result ≡ deep (cursor_of c) }
 {
-    if c.depth < format::MAX_RECORD_DEPTH {
-        c.depth
-    } else {
-        format::MAX_RECORD_DEPTH
+    c.depth.min(format::MAX_RECORD_DEPTH)
+}
+
+// The depth behind the end of the open group. At depth 0 none is open.
+fn outer_depth(c: Cursor) -> Result<u32, Refusal>
+    ensures { answered result ≡ if (eqb c.depth 0) (refused BadRecord 0) (ok (deep (cursor_of c) - 1)) }
+{
+    if c.depth == 0 {
+        return Err(Refusal::BadRecord);
     }
+    Ok(depth_of(c) - 1)
 }

@@ -1,44 +1,19 @@
 // Reading single fields and groups at a cursor.
 ghost use Rattle.std.specs.Prelude.{◌≡◌, ◌+◌, ◌^◌, ◌<◌};
-ghost use Rattle.format.specs.Lengths.{length_in};
+ghost use Rattle.format.specs.Refusals.{answered};
 ghost use Rattle.format.specs.Cursor as cursor;
 ghost use Rattle.scalar.specs.Answers.{got_int, got_part};
 ghost use Rattle.cursor.specs.Steps.{cursor_of, taken_of, moved_of, part_answer, end_of, used_of, step_of, PartFits, int_moved, step_moved, part_moved, part_in, Hands};
 
-use crate::{Cursor, Moved, depth_of};
-use format::Length;
-use scalar::{GotInt, GotPart, groups};
-
-// A number and the cursor behind it; or a refusal and its detail.
-#[derive(Clone, Copy)]
-pub enum Taken {
-    Value(u64, Cursor),
-    Refused(u32, u64),
-}
-
-// Where a payload is, its length and the cursor behind its field; or a refusal and its detail.
-#[derive(Clone, Copy)]
-pub enum TakenPart {
-    InKey(usize, usize, Cursor),
-    InScratch(usize, Cursor),
-    Refused(u32, u64),
-}
-
-// Whether the open group ends here; or a refusal and its detail.
-#[derive(Clone, Copy)]
-pub enum RecordEnd {
-    Is(bool),
-    Refused(u32, u64),
-}
+use crate::{Cursor, depth_of, outer_depth};
+use format::Refusal;
+use scalar::{Place, Taken, groups};
 
 // What is left of the key, the empty part where the place is past its end.
 pub fn remaining<'a>(key: &'a [u8], c: Cursor) -> &'a [u8]
     ensures { result.now ≡ cursor.rest key.now (cursor_of c) }
 {
-    let at = c.at;
-    if key.len() < at {
-        return &key[..0];
-    }
+    let at = c.at.min(key.len());
     &key[at..]
 }
 
@@ -54,51 +29,54 @@ fn on_to(c: Cursor, n: usize, depth: u32) -> Cursor
 }
 
 // A number that was read at the cursor, and a depth behind it.
-fn taken_int(c: Cursor, got: GotInt, depth: u32) -> Taken
+fn taken_int(
+    c: Cursor,
+    got: Result<Taken<u64>, Refusal>,
+    depth: u32,
+) -> Result<(u64, Cursor), Refusal>
     requires { c.at + used_of (got_int got) < 2 ^ 64 }
     ensures { taken_of result ≡ int_moved depth (cursor_of c) (got_int got) }
 {
-    match got {
-        GotInt::Value(v, n) => Taken::Value(v, on_to(c, n, depth)),
-        GotInt::Refused(no, detail) => Taken::Refused(no, detail),
-    }
+    let t = got?;
+    Ok((t.value, on_to(c, t.used, depth)))
 }
 
 // Takes a signed integer as its word.
-pub fn take_i64(key: &[u8], c: Cursor) -> Taken
+pub fn take_i64(key: &[u8], c: Cursor) -> Result<(u64, Cursor), Refusal>
     ensures { taken_of result ≡ cursor.take_i64 key.now (cursor_of c) }
 {
     taken_int(c, scalar::get_i64(remaining(key, c)), depth_of(c))
 }
 
 // Takes an unsigned integer.
-pub fn take_u64(key: &[u8], c: Cursor) -> Taken
+pub fn take_u64(key: &[u8], c: Cursor) -> Result<(u64, Cursor), Refusal>
     ensures { taken_of result ≡ cursor.take_u64 key.now (cursor_of c) }
 {
     taken_int(c, scalar::get_u64(remaining(key, c)), depth_of(c))
 }
 
 // Takes a reference. No type is at hand, so only its sequence is checked.
-pub fn take_fact_id(key: &[u8], c: Cursor) -> Taken
+pub fn take_fact_id(key: &[u8], c: Cursor) -> Result<(u64, Cursor), Refusal>
     ensures { taken_of result ≡ cursor.take_fact_id key.now (cursor_of c) }
 {
     taken_int(c, scalar::get_fact_id(remaining(key, c)), depth_of(c))
 }
 
 // A payload that was read at the cursor: a place in the rest of the key is one in the key.
-fn taken_part(c: Cursor, got: GotPart) -> TakenPart
+fn taken_part(c: Cursor, got: Result<Taken<Place>, Refusal>) -> Result<(Place, Cursor), Refusal>
     requires { PartFits c.at (got_part got) }
     ensures { part_answer result ≡ part_moved (cursor_of c) (got_part got) }
 {
-    match got {
-        GotPart::InKey(at, len, n) => TakenPart::InKey(c.at + at, len, on_to(c, n, depth_of(c))),
-        GotPart::InScratch(len, n) => TakenPart::InScratch(len, on_to(c, n, depth_of(c))),
-        GotPart::Refused(no, detail) => TakenPart::Refused(no, detail),
+    let t = got?;
+    let next = on_to(c, t.used, depth_of(c));
+    match t.value {
+        Place::InKey { at, len } => Ok((Place::InKey { at: c.at + at, len }, next)),
+        Place::InScratch { len } => Ok((Place::InScratch { len }, next)),
     }
 }
 
 // Takes text: a part of the key where no escape occurs, otherwise of the scratch buffer, filled just before.
-pub fn take_str(key: &[u8], c: Cursor, scratch: &mut [u8]) -> TakenPart
+pub fn take_str(key: &[u8], c: Cursor, scratch: &mut [u8]) -> Result<(Place, Cursor), Refusal>
     ensures { Hands (cursor.take_str key.now (cursor_of c) scratch.old) result scratch.new }
 {
     let got = scalar::get_str(remaining(key, c), scratch);
@@ -106,7 +84,7 @@ pub fn take_str(key: &[u8], c: Cursor, scratch: &mut [u8]) -> TakenPart
 }
 
 // Takes bytes, likewise.
-pub fn take_bytes(key: &[u8], c: Cursor, scratch: &mut [u8]) -> TakenPart
+pub fn take_bytes(key: &[u8], c: Cursor, scratch: &mut [u8]) -> Result<(Place, Cursor), Refusal>
     ensures { Hands (cursor.take_bytes key.now (cursor_of c) scratch.old) result scratch.new }
 {
     let got = scalar::get_bytes(remaining(key, c), scratch);
@@ -114,29 +92,30 @@ pub fn take_bytes(key: &[u8], c: Cursor, scratch: &mut [u8]) -> TakenPart
 }
 
 // The part that holds the payload taken. A refused one is the empty part, and so is one that does not lie within its slice.
-pub fn payload<'a>(key: &'a [u8], scratch: &'a [u8], taken: TakenPart) -> &'a [u8]
+pub fn payload<'a>(
+    key: &'a [u8],
+    scratch: &'a [u8],
+    taken: Result<(Place, Cursor), Refusal>,
+) -> &'a [u8]
     ensures { result.now ≡ part_in key.now scratch.now (part_answer taken) }
 {
     match taken {
-        TakenPart::InKey(at, len, _) => scalar::payload(key, scratch, GotPart::InKey(at, len, 0)),
-        TakenPart::InScratch(len, _) => scalar::payload(key, scratch, GotPart::InScratch(len, 0)),
-        TakenPart::Refused(_, _) => &key[..0],
+        Ok((value, _)) => scalar::payload(key, scratch, Ok(Taken { value, used: 0 })),
+        Err(why) => scalar::payload(key, scratch, Err(why)),
     }
 }
 
 // A step at the cursor that has no value of its own, and a depth behind it.
-fn moved(c: Cursor, got: Length, depth: u32) -> Moved
-    requires { c.at + step_of (length_in got) < 2 ^ 64 }
-    ensures { moved_of result ≡ step_moved depth (cursor_of c) (length_in got) }
+fn moved(c: Cursor, got: Result<usize, Refusal>, depth: u32) -> Result<Cursor, Refusal>
+    requires { c.at + step_of (answered got) < 2 ^ 64 }
+    ensures { moved_of result ≡ step_moved depth (cursor_of c) (answered got) }
 {
-    match got {
-        Length::Done(n) => Moved::To(on_to(c, n, depth)),
-        Length::Refused(no, detail) => Moved::Refused(no, detail),
-    }
+    let n = got?;
+    Ok(on_to(c, n, depth))
 }
 
 // Takes a null. Inside a group its escape is due.
-pub fn take_null(key: &[u8], c: Cursor) -> Moved
+pub fn take_null(key: &[u8], c: Cursor) -> Result<Cursor, Refusal>
     ensures { moved_of result ≡ cursor.take_null key.now (cursor_of c) }
 {
     let depth = depth_of(c);
@@ -144,7 +123,7 @@ pub fn take_null(key: &[u8], c: Cursor) -> Moved
 }
 
 // Opens a record: its mark, then its depth.
-pub fn open_record(key: &[u8], c: Cursor) -> Moved
+pub fn open_record(key: &[u8], c: Cursor) -> Result<Cursor, Refusal>
     ensures { moved_of result ≡ cursor.open_record key.now (cursor_of c) }
 {
     let depth = depth_of(c);
@@ -152,7 +131,7 @@ pub fn open_record(key: &[u8], c: Cursor) -> Moved
 }
 
 // Opens a union: its mark, its discriminant, then its depth. The discriminant may be any 64-bit number.
-pub fn open_union(key: &[u8], c: Cursor) -> Taken
+pub fn open_union(key: &[u8], c: Cursor) -> Result<(u64, Cursor), Refusal>
     ensures { taken_of result ≡ cursor.open_union key.now (cursor_of c) }
 {
     let depth = depth_of(c);
@@ -160,25 +139,23 @@ pub fn open_union(key: &[u8], c: Cursor) -> Taken
 }
 
 // Closes the open group. At depth 0 none is open, whatever byte stands there.
-pub fn close(key: &[u8], c: Cursor) -> Moved
+pub fn close(key: &[u8], c: Cursor) -> Result<Cursor, Refusal>
     ensures { moved_of result ≡ cursor.close key.now (cursor_of c) }
 {
-    if c.depth == 0 {
-        return Moved::Refused(format::BAD_RECORD, 0);
-    }
-    moved(c, groups::close(remaining(key, c)), depth_of(c) - 1)
+    let depth = outer_depth(c)?;
+    moved(c, groups::close(remaining(key, c)), depth)
 }
 
 // Does the open group end here? At depth 0 none is open.
-pub fn is_record_end(key: &[u8], c: Cursor) -> RecordEnd
+pub fn is_record_end(key: &[u8], c: Cursor) -> Result<bool, Refusal>
     ensures { end_of result ≡ cursor.is_record_end key.now (cursor_of c) }
 {
     if c.depth == 0 {
-        return RecordEnd::Is(false);
+        return Ok(false);
     }
     let rest = remaining(key, c);
-    if rest.len() == 0 {
-        return RecordEnd::Refused(format::UNEXPECTED_EOF, 0);
+    if rest.is_empty() {
+        return Err(Refusal::UnexpectedEof);
     }
-    RecordEnd::Is(groups::ends_here(rest))
+    Ok(groups::ends_here(rest))
 }

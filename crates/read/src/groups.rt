@@ -2,66 +2,64 @@
 ghost use Rattle.std.specs.Prelude.{◌≤◌, length, drop};
 ghost use Rattle.read.specs.Walk.{InKey, ClosesUnion, Begins, Finishes};
 
-use crate::Walked;
-use crate::answers::bad;
-use format::Length;
+use crate::{Refused, Walked};
+use format::Refusal;
 
 // Closes a union whose payload was read.
-pub fn close_union(ty: &[u32], bytes: &[u8], r: Walked, left: u32, asked: bool) -> Walked
+pub fn close_union(
+    ty: &[u32],
+    bytes: &[u8],
+    r: Result<Walked, Refused>,
+    left: u32,
+    asked: bool,
+) -> Result<Walked, Refused>
     requires { InKey bytes.now r }
     ensures { ClosesUnion ty.now bytes.now left asked r result }
 {
-    match r {
-        Walked::Bad { no, detail, begun } => bad(no, detail, begun),
-        Walked::Good {
-            at,
-            next,
-            words,
-            pool,
-            begun,
-        } => match scalar::groups::close(&bytes[next..]) {
-            Length::Refused(no, detail) => bad(no, detail, begun),
-            Length::Done(used) => Walked::Good {
-                at: sheet::union_end(ty, at, left, asked),
-                next: next + used,
-                words,
-                pool,
-                begun,
-            },
-        },
+    let payload = r?;
+    match scalar::groups::close(&bytes[payload.next..]) {
+        Err(why) => Err(Refused {
+            why,
+            begun: payload.begun,
+        }),
+        Ok(used) => Ok(Walked {
+            at: sheet::union_end(ty, payload.at, left, asked),
+            next: payload.next + used,
+            ..payload
+        }),
     }
 }
 
-// The number of what refuses a field that is to begin here, in a group the key's or the group's end; 0 where nothing does.
-pub fn field_refusal(bytes: &[u8], i: usize, depth: u32) -> u32
+// What refuses a field that is to begin here, in a group the key's or the group's end.
+pub fn field_refusal(bytes: &[u8], i: usize, depth: u32) -> Result<(), Refusal>
     requires { i ≤ length bytes.now }
     ensures { Begins depth (drop i bytes.now) result }
 {
     if depth == 0 {
-        return 0;
+        return Ok(());
     }
     if bytes.len() == i {
-        return format::UNEXPECTED_EOF;
+        return Err(Refusal::UnexpectedEof);
     }
     if scalar::groups::ends_here(&bytes[i..]) {
-        return format::BAD_RECORD;
+        return Err(Refusal::BadRecord);
     }
-    0
+    Ok(())
 }
 
 // The place behind fields of which none is left, in a group behind its end.
-pub fn fields_end(bytes: &[u8], i: usize, depth: u32) -> Length
+pub fn fields_end(bytes: &[u8], i: usize, depth: u32) -> Result<usize, Refusal>
     requires { i ≤ length bytes.now }
     ensures { Finishes depth bytes.now i result }
 {
     if depth == 0 {
-        return Length::Done(i);
+        return Ok(i);
     }
     if bytes.len() == i {
-        return Length::Refused(format::UNEXPECTED_EOF, 0);
+        return Err(Refusal::UnexpectedEof);
     }
     if scalar::groups::ends_here(&bytes[i..]) {
-        return Length::Done(i + 1);
+        return Ok(i + 1);
     }
-    Length::Refused(format::BAD_RECORD, 0)
+    Err(Refusal::BadRecord)
 }

@@ -7,23 +7,23 @@ mod keys;
 mod leaves;
 mod values;
 
+use format::Refusal;
 pub use keys::walk_bare;
 pub use values::{walk_fields, walk_value};
 
-// How a walk ended: the next places in the type and the key, and of what was read the words, the bytes for the pool and the values begun; or the refusal, with
-// the values begun.
+// How a walk ended: the next places in the type and the key, and of what was read the words, the bytes for the pool and the values begun.
 #[derive(Clone, Copy)]
-pub enum Walked {
-    Good {
-        at: usize,
-        next: usize,
-        words: usize,
-        pool: usize,
-        begun: usize,
-    },
-    Bad {
-        no: u32,
-        detail: u64,
-        begun: usize,
-    },
+pub struct Walked {
+    pub at: usize,
+    pub next: usize,
+    pub words: usize,
+    pub pool: usize,
+    pub begun: usize,
+}
+
+// Why a walk ended before, and the values begun.
+#[derive(Clone, Copy)]
+pub struct Refused {
+    pub why: Refusal,
+    pub begun: usize,
 }

@@ -2,37 +2,46 @@
 ghost use Rattle.std.specs.Prelude.{◌≤◌, ◌<◌, length, get_or};
 ghost use Rattle.read.specs.Walk.{TypeAt, FieldsAt, ValueWalk, FieldWalk};
 
-use crate::Walked;
-use crate::answers::{bad, blank, more};
+use crate::answers::{blank, more};
 use crate::groups::{close_union, field_refusal, fields_end};
 use crate::leaves::walk_scalar;
-use format::Length;
-use scalar::GotInt;
+use crate::{Refused, Walked};
+use format::Refusal;
 
 // A value under the type at a place of the sheet. Under an optional type a null is read; what is none is read as the type behind word 7. The one call of
 // `walk_plain` stands here, so that it is no frame of its own.
 #[cycle(walks)]
-pub fn walk_value(ty: &[u32], at: usize, bytes: &[u8], i: usize, depth: u32, asked: bool) -> Walked
+pub fn walk_value(
+    ty: &[u32],
+    at: usize,
+    bytes: &[u8],
+    i: usize,
+    depth: u32,
+    asked: bool,
+) -> Result<Walked, Refused>
     requires { (TypeAt ty.now at) × (i ≤ length bytes.now) }
     ensures { ValueWalk ty.now at bytes.now i depth asked result }
 {
     let mut place = at;
     if ty[at] == format::KIND_OPTIONAL {
-        match scalar::groups::null(&bytes[i..], 0 < depth) {
-            Length::Done(used) => {
-                return blank(sheet::skip_type(ty, at, asked), i + used);
-            }
-            Length::Refused(_, _) => {
-                place = at + 1;
-            }
+        if let Ok(used) = scalar::groups::null(&bytes[i..], 0 < depth) {
+            return Ok(blank(sheet::skip_type(ty, at, asked), i + used));
         }
+        place = at + 1;
     }
     walk_plain(ty, place, bytes, i, depth, asked)
 }
 
 // A value under a type that is not optional.
 #[cycle(walks)]
-fn walk_plain(ty: &[u32], at: usize, bytes: &[u8], i: usize, depth: u32, asked: bool) -> Walked
+fn walk_plain(
+    ty: &[u32],
+    at: usize,
+    bytes: &[u8],
+    i: usize,
+    depth: u32,
+    asked: bool,
+) -> Result<Walked, Refused>
     requires { (TypeAt ty.now at) × ((i ≤ length bytes.now) × (get_or ty.now at 0 < 7)) }
     ensures { ValueWalk ty.now at bytes.now i depth asked result }
 {
@@ -42,26 +51,16 @@ fn walk_plain(ty: &[u32], at: usize, bytes: &[u8], i: usize, depth: u32, asked: 
     }
     if kind == format::KIND_RECORD {
         let n = ty[at + 1];
-        return match scalar::groups::open_record(&bytes[i..], depth) {
-            Length::Refused(no, detail) => bad(no, detail, 1),
-            Length::Done(used) => {
-                let r = walk_fields(ty, at + 2, n, bytes, i + used, depth + 1, asked);
-                more(r, 2, 1)
-            }
-        };
+        let used = scalar::groups::open_record(&bytes[i..], depth)?;
+        let r = walk_fields(ty, at + 2, n, bytes, i + used, depth + 1, asked);
+        return more(r, 2, 1);
     }
-    match scalar::groups::open_union(&bytes[i..], depth) {
-        GotInt::Refused(no, detail) => bad(no, detail, 1),
-        GotInt::Value(tag, used) => {
-            let choice = sheet::alternative(ty, at, tag);
-            let place = choice.place;
-            if place == 0 {
-                return bad(format::UNKNOWN_DISCRIMINANT, tag, 1);
-            }
-            let r = walk_value(ty, place, bytes, i + used, depth + 1, asked);
-            more(close_union(ty, bytes, r, choice.left, asked), 2, 1)
-        }
-    }
+    let opened = scalar::groups::open_union(&bytes[i..], depth)?;
+    let tag = opened.value;
+    let choice = sheet::alternative(ty, at, tag);
+    let place = choice.place.ok_or(Refusal::UnknownDiscriminant(tag))?;
+    let r = walk_value(ty, place, bytes, i + opened.used, depth + 1, asked);
+    more(close_union(ty, bytes, r, choice.left, asked), 2, 1)
 }
 
 // The n fields whose types stand at a place of the sheet: bare at depth 0, else those of a group, with its end.
@@ -74,51 +73,34 @@ pub fn walk_fields(
     i: usize,
     depth: u32,
     asked: bool,
-) -> Walked
+) -> Result<Walked, Refused>
     requires { (FieldsAt ty.now at n) × (i ≤ length bytes.now) }
     ensures { FieldWalk ty.now at n bytes.now i depth asked result }
 {
-    let mut a = at;
-    let mut left = n;
-    let mut j = i;
-    let mut w: usize = 0;
-    let mut p: usize = 0;
-    let mut b: usize = 0;
-    while 0 < left {
-        let refusal = field_refusal(bytes, j, depth);
-        if refusal != 0 {
-            return bad(refusal, 0, b);
-        }
+    let mut sum = Walked {
+        at,
+        next: i,
+        words: 0,
+        pool: 0,
+        begun: 0,
+    };
+    for done in 0..n {
+        let begun = sum.begun;
+        field_refusal(bytes, sum.next, depth).map_err(|why| Refused { why, begun })?;
         // a name of its own, so that what was lent is read by halves, as it was handed over
         let key = bytes;
-        match walk_value(ty, a, key, j, depth, sheet::asks(left, asked)) {
-            Walked::Bad { no, detail, begun } => {
-                return bad(no, detail, b + begun);
-            }
-            Walked::Good {
-                at: behind,
-                next,
-                words,
-                pool,
-                begun,
-            } => {
-                a = behind;
-                j = next;
-                w += words;
-                p += pool;
-                b += begun;
-            }
-        }
-        left -= 1;
+        let more_asked = sheet::asks(n - done, asked);
+        let field = walk_value(ty, sum.at, key, sum.next, depth, more_asked).map_err(|e| e.after(
+            begun,
+        ))?;
+        sum = Walked {
+            words: sum.words + field.words,
+            pool: sum.pool + field.pool,
+            begun: begun + field.begun,
+            ..field
+        };
     }
-    match fields_end(bytes, j, depth) {
-        Length::Refused(no, detail) => bad(no, detail, b),
-        Length::Done(next) => Walked::Good {
-            at: a,
-            next,
-            words: w,
-            pool: p,
-            begun: b,
-        },
-    }
+    let begun = sum.begun;
+    let next = fields_end(bytes, sum.next, depth).map_err(|why| Refused { why, begun })?;
+    Ok(Walked { next, ..sum })
 }

@@ -2,7 +2,10 @@
 use Prim.Native.Nat.{ℕ, ◌≤◌}
 use mathlib.Core.List.{List}
 use mathlib.Core.Option.{Option, some, none}
-use mathlib.Core.Path.{◌≡◌, refl}
+use mathlib.Core.Path.{◌≡◌, refl, sym}
+use Rattle.std.specs.Prelude.{Some, None}
+use Rattle.std.specs.Prelude as std
+use Rattle.std.proofs.lemmas.Option.{none-some}
 use native.Mathlib.Omega.{arith}
 use Rattle.format.specs.Tree.{Ty, Alts}
 use Rattle.format.specs.Sheet.{alt_count}
@@ -24,20 +27,20 @@ pub record Picked (ty : List ℕ) (tag place left : ℕ) (us : Alts) (e : ℕ) :
   pub deep : nesting type ≤ max_groups
   pub deeps : alt_nestings more ≤ max_groups
 
-module _ {ty : List ℕ} {at tag place left : ℕ} (h : Picks ty at tag place left) (us : Alts) {e : ℕ} (s : TypeIn ty at (Ty.Union us) e) (d : nesting (Ty.Union us) ≤ max_groups) where
-  pub missing : place ≡ 0 → choose tag us ≡ none
-  missing z = go (choose tag us) (h.picks us e s d)
+module _ {ty : List ℕ} {at tag left : ℕ} {place : std.Option ℕ} (h : Picks ty at tag place left) (us : Alts) {e : ℕ} (s : TypeIn ty at (Ty.Union us) e) (d : nesting (Ty.Union us) ≤ max_groups) where
+  pub missing : place ≡ None → choose tag us ≡ none
+  missing z = go (choose tag us) (rw z at h.picks us e s d)
     where
-      go : (o : Option (Ty × Alts)) → Chosen ty e place left o → o ≡ none
-      go (some c) k = absurd (omega (arith, k.0))
+      go : (o : Option (Ty × Alts)) → Chosen ty e None left o → o ≡ none
+      go (some c) k = absurd k
       go none k = refl
 
-  pub picked : (place ≡ 0 → ⊥) → Picked ty tag place left us e
+  pub picked : {p : ℕ} → place ≡ Some p → Picked ty tag p left us e
   unfolding nesting
-  picked nz = go (choose tag us) refl (h.picks us e s d)
+  picked {p} z = go (choose tag us) refl (rw z at h.picks us e s d)
     where
-      go : (o : Option (Ty × Alts)) → choose tag us ≡ o → Chosen ty e place left o → Picked ty tag place left us e
-      go none q k = absurd (nz k)
+      go : (o : Option (Ty × Alts)) → choose tag us ≡ o → Chosen ty e (Some p) left o → Picked ty tag p left us e
+      go none q k = absurd (none-some p (sym k))
       go (some c) q k =
           let m = chosen_nesting us tag c q in
-          record { type = c.0; more = c.1; is = q; end = k.1; here = k.2; behind = k.3; count = k.4; deep = omega (arith, m.0); deeps = omega (arith, m.1) }
+          record { type = c.0; more = c.1; is = q; end = k.0; here = k.1; behind = k.2; count = k.3; deep = omega (arith, m.0); deeps = omega (arith, m.1) }

@@ -4,11 +4,11 @@ ghost use Rattle.sheet.specs.Places.{Searches, SkipsAlts};
 
 use crate::types::{alternatives_end, type_end};
 
-// What the search for a tag gives: the place of the alternative's type, 0 for none; how many alternatives stand behind it; how many were looked at, which is its
+// What the search for a tag gives: the place of the alternative's type, if there is one; how many alternatives stand behind it; how many were looked at, which is its
 // place from 1, or all of them.
 #[derive(Clone, Copy)]
 pub struct Choice {
-    pub place: usize,
+    pub place: Option<usize>,
     pub left: u32,
     pub looked: u32,
 }
@@ -19,7 +19,7 @@ pub fn alternative(ty: &[u32], at: usize, tag: u64) -> Choice
 {
     if at >= ty.len() || ty.len() - at < 2 {
         return Choice {
-            place: 0,
+            place: None,
             left: 0,
             looked: 0,
         };
@@ -29,20 +29,20 @@ pub fn alternative(ty: &[u32], at: usize, tag: u64) -> Choice
     let mut place = at + 2;
     let found = loop {
         if left == 0 {
-            break 0;
+            break None;
         }
         if place >= ty.len() {
-            break 0;
+            break None;
         }
         left -= 1;
         looked += 1;
         let inside = place + 1;
-        if format::wide_word(ty[place]) == tag {
-            break inside;
+        if u64::from(ty[place]) == tag {
+            break Some(inside);
         }
-        place = type_end(ty, inside, format::MAX_SHEET_GROUPS);
-        if place == 0 {
-            break 0;
+        match type_end(ty, inside, format::MAX_SHEET_GROUPS) {
+            Some(end) => place = end,
+            None => break None,
         }
     };
     Choice {
@@ -59,7 +59,7 @@ pub fn skip_alternatives(ty: &[u32], at: usize, count: u32) -> usize
     if at > ty.len() {
         return 0;
     }
-    alternatives_end(ty, at, count, format::MAX_SHEET_GROUPS)
+    alternatives_end(ty, at, count, format::MAX_SHEET_GROUPS).unwrap_or(0)
 }
 
 // The place behind the alternatives left of a union, where it is asked for: they are not passed in vain.

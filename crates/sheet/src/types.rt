@@ -3,26 +3,26 @@ ghost use Rattle.std.specs.Prelude.{◌≡◌, true, ◌+◌, ◌≤◌, ◌<◌
 ghost use Rattle.format.specs.TypeSheet.{type_at, types, alts, type_of, is_some};
 ghost use Rattle.sheet.specs.Places.{Ends, SkipsType, SkipsTypes};
 
-// The place behind the type at `at`, of at most `groups` groups in one another; 0 if there is none. Only a group is a call.
+// The place behind the type at `at`, of at most `groups` groups in one another, if there is one. Only a group is a call.
 #[cycle(type_ends)]
-pub fn type_end(ty: &[u32], at: usize, groups: usize) -> usize
+pub fn type_end(ty: &[u32], at: usize, groups: usize) -> Option<usize>
     ensures { Ends ty.now (at + 1) (type_at groups (drop at ty.now)) result }
 {
     if at >= ty.len() {
-        return 0;
+        return None;
     }
     let kind = ty[at];
     if kind == 0 {
-        return 0;
+        return None;
     }
     if kind < format::KIND_FACT {
-        return at + 1;
+        return Some(at + 1);
     }
     if ty.len() - at < 2 {
-        return 0;
+        return None;
     }
     if kind == format::KIND_FACT {
-        return at + 2;
+        return Some(at + 2);
     }
     // a name of its own, so that only here the slice has to stand in memory
     let words = ty;
@@ -32,7 +32,7 @@ pub fn type_end(ty: &[u32], at: usize, groups: usize) -> usize
 // The place behind the group at `at`, or behind word 7 and the type that it makes optional, which is not optional itself; an unknown kind is none. It
 // calls itself behind word 7, so that the compiler keeps it out of the loops over types.
 #[cycle(type_ends)]
-fn group_end(ty: &[u32], at: usize, groups: usize) -> usize
+fn group_end(ty: &[u32], at: usize, groups: usize) -> Option<usize>
     requires { (at + 1 < length ty.now) × (4 < get_or ty.now at 0) }
     ensures { Ends ty.now (at + 1) (type_at groups (drop at ty.now)) result }
 {
@@ -40,25 +40,25 @@ fn group_end(ty: &[u32], at: usize, groups: usize) -> usize
     let second = ty[at + 1];
     if kind == format::KIND_OPTIONAL {
         if second == 0 {
-            return 0;
+            return None;
         }
         if second == format::KIND_OPTIONAL {
-            return 0;
+            return None;
         }
         if second < format::KIND_FACT {
-            return at + 2;
+            return Some(at + 2);
         }
         if ty.len() - at < 3 {
-            return 0;
+            return None;
         }
         if second == format::KIND_FACT {
-            return at + 3;
+            return Some(at + 3);
         }
         let words = ty;
         return group_end(words, at + 1, groups);
     }
     if groups == 0 {
-        return 0;
+        return None;
     }
     if kind == format::KIND_RECORD {
         return fields_end(ty, at + 2, second, groups - 1);
@@ -66,46 +66,36 @@ fn group_end(ty: &[u32], at: usize, groups: usize) -> usize
     if kind == format::KIND_UNION {
         return alternatives_end(ty, at + 2, second, groups - 1);
     }
-    0
+    None
 }
 
-// The place behind `count` types from `at` on; 0 if they do not stand there.
+// The place behind `count` types from `at` on, if they stand there.
 #[cycle(type_ends)]
-fn fields_end(ty: &[u32], at: usize, count: u32, groups: usize) -> usize
+fn fields_end(ty: &[u32], at: usize, count: u32, groups: usize) -> Option<usize>
     requires { at ≤ length ty.now }
     ensures { Ends ty.now at (types (type_at groups) count (drop at ty.now)) result }
 {
-    let mut left = count;
     let mut place = at;
-    while left > 0 {
-        place = type_end(ty, place, groups);
-        if place == 0 {
-            return 0;
-        }
-        left -= 1;
+    for _ in 0..count {
+        place = type_end(ty, place, groups)?;
     }
-    place
+    Some(place)
 }
 
-// The place behind `count` alternatives from `at` on; 0 if they do not stand there.
+// The place behind `count` alternatives from `at` on, if they stand there.
 #[cycle(type_ends)]
-pub fn alternatives_end(ty: &[u32], at: usize, count: u32, groups: usize) -> usize
+pub fn alternatives_end(ty: &[u32], at: usize, count: u32, groups: usize) -> Option<usize>
     requires { at ≤ length ty.now }
     ensures { Ends ty.now at (alts (type_at groups) count (drop at ty.now)) result }
 {
-    let mut left = count;
     let mut place = at;
-    while left > 0 {
+    for _ in 0..count {
         if place >= ty.len() {
-            return 0;
+            return None;
         }
-        place = type_end(ty, place + 1, groups);
-        if place == 0 {
-            return 0;
-        }
-        left -= 1;
+        place = type_end(ty, place + 1, groups)?;
     }
-    place
+    Some(place)
 }
 
 // Is the sheet admitted: used up exactly, of known kinds, of at most 4,096 words and at most 320 groups in one another?
@@ -115,11 +105,7 @@ pub fn admit_type(ty: &[u32]) -> bool
     if ty.len() > format::MAX_TYPE_WORDS {
         return false;
     }
-    let end = type_end(ty, 0, format::MAX_SHEET_GROUPS);
-    if end == 0 {
-        return false;
-    }
-    end == ty.len()
+    type_end(ty, 0, format::MAX_SHEET_GROUPS) == Some(ty.len())
 }
 
 // The place behind the type at `at`, of an admitted sheet, where it is asked for: it is not passed in vain.
@@ -127,7 +113,7 @@ pub fn skip_type(ty: &[u32], at: usize, asked: bool) -> usize
     ensures { asked ≡ true → SkipsType ty.now at result }
 {
     if asked {
-        return type_end(ty, at, format::MAX_SHEET_GROUPS);
+        return type_end(ty, at, format::MAX_SHEET_GROUPS).unwrap_or(0);
     }
     at
 }
@@ -139,7 +125,7 @@ pub fn skip_fields(ty: &[u32], at: usize, count: u32) -> usize
     if at > ty.len() {
         return 0;
     }
-    fields_end(ty, at, count, format::MAX_SHEET_GROUPS)
+    fields_end(ty, at, count, format::MAX_SHEET_GROUPS).unwrap_or(0)
 }
 
 // Is the place behind the first of some types in a row asked for? Where a type follows, or where the place behind the last one is.

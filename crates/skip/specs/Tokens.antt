@@ -1,19 +1,18 @@
 -- What the answers mean, by cases, and the parts of a turn that have a function each.
-use Rattle.std.specs.Prelude.{Bool, false, ◌||◌, List, [], ◌∷◌, ◌≡◌, ℕ, ◌≤◌, ◌<◌, leb, eqb, length, get_or, drop}
+use Rattle.std.specs.Prelude.{Bool, false, ◌||◌, List, [], ◌∷◌, ◌≡◌, ℕ, ◌≤◌, ◌<◌, leb, eqb, length, get_or, drop, Result, Option, Some, None}
 use Rattle.format.specs.Answer.{if, Answer, ok, refused, and_then, UnexpectedEof}
+use Rattle.format.specs.Refusals.{answered_by}
+use Rattle.format.specs.declared.refusal.Refusal.{Refusal}
 use Rattle.format.specs.Encode.{max_depth}
 use Rattle.format.specs.Read.{Read, then_read, get_run}
 use Rattle.format.specs.Skip.{pass_field, end_of}
 use Rattle.format.specs.Cursor.{null_at}
 use Rattle.format.specs.Fields.{Taken}
 use Rattle.scalar.specs.Numbers.{mark_width, unjudged}
-use Rattle.skip.specs.declared.Token.{Token}
-use Rattle.skip.specs.declared.Token.TheVariants.{Passed, Bad}
 
 -- the depth behind what was passed, and how many bytes that took
-abbrev pub token_of : Token → Answer (Taken ℕ)
-token_of (Passed depth n) = ok (record { value = depth; used = n })
-token_of (Bad n d) = refused n d
+abbrev pub token_of : Result (ℕ × ℕ) Refusal → Answer (Taken ℕ)
+token_of = answered_by (λ t. record { value = t.0; used = t.1 })
 
 -- a field with its mark, where no group ends
 unfoldable pub field : Bool → ℕ → List ℕ → Read ℕ
@@ -41,11 +40,16 @@ run_mark m = eqb m 0x21 || eqb m 0x53
 abbrev pub pass_run : ℕ → List ℕ → Read ℕ
 pass_run depth bs = then_read (get_run bs) (λ s rest. Read.got depth rest)
 
--- the run behind the first byte takes r bytes, that byte included; r is 0 if it does not end
-pub record RunEnds (s : List ℕ) (r : ℕ) : Type 0 where
-  pub inside : (r ≡ 0 → ⊥) → r ≤ length s
-  pub passes : (r ≡ 0 → ⊥) → (depth : ℕ) → pass_run depth (drop 1 s) ≡ Read.got depth (drop r s)
-  pub cut : r ≡ 0 → (depth : ℕ) → pass_run depth (drop 1 s) ≡ Read.bad UnexpectedEof 0
+-- the run behind the first byte takes n bytes, that byte included
+pub record Runs (s : List ℕ) (n : ℕ) : Type 0 where
+  pub some : 0 < n
+  pub inside : n ≤ length s
+  pub passes : (depth : ℕ) → pass_run depth (drop 1 s) ≡ Read.got depth (drop n s)
+
+-- how many bytes it takes, if it ends
+abbrev pub RunEnds : List ℕ → Option ℕ → Type 0
+RunEnds s (Some n) = Runs s n
+RunEnds s None = (depth : ℕ) → pass_run depth (drop 1 s) ≡ Read.bad UnexpectedEof 0
 
 -- what is left when no number was passed, no run starts and no record was opened: a number is cut short, a record too deep
 pub record Left (depth : ℕ) (s : List ℕ) : Type 0 where
