@@ -3,10 +3,10 @@ ghost use Rattle.std.specs.Prelude.{◌≡◌};
 ghost use Rattle.format.specs.Answer.{refused};
 ghost use Rattle.format.specs.Refusals.{number_of as refusal_number, detail_of, answered};
 ghost use Rattle.encode.specs.Encoded as encoding;
-ghost use Rattle.scalar.specs.Answers.{got_int, got_part};
+ghost use Rattle.scalar.specs.Answers.{place_of as place_in, got_int, got_part};
 ghost use Rattle.order.specs.Compare.{compared_of};
 ghost use Rattle.key.specs.Keys.{bounded_of};
-ghost use Rattle.tuple.specs.Numbers.{length_of, encoded_of, sheet_of, ends_of, order_of, number_of, part_of, decoded_numbers, checked_numbers};
+ghost use Rattle.tuple.specs.Numbers.{length_of, encoded_of, sheet_of, ends_of, order_of, number_of, place_of, part_of, decoded_numbers, checked_numbers};
 
 use decode::{Decoded, Refused};
 use format::Refusal;
@@ -238,7 +238,7 @@ impl From<Result<Taken<u64>, Refusal>> for Number {
 
 // The part of a payload at a place, whose field took so many bytes.
 fn part_at(place: Place, used: usize) -> Part
-    ensures { result ≡ place_of (got_place place) used }
+    ensures { result ≡ place_of (place_in place) used }
 {
     match place {
         Place::InKey { at, len } => Part {

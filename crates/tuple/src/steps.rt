@@ -52,10 +52,7 @@ pub struct CharStep {
 fn narrow(at: usize, depth: usize) -> u32
     ensures { result ≡ (cursor_at at depth).depth }
 {
-    if depth < 256 {
-        return depth as u32;
-    }
-    256
+    depth.min(256) as u32
 }
 
 pub fn cursor_at(at: usize, depth: usize) -> Cursor
