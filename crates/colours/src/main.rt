@@ -6,11 +6,10 @@ mod names; // names.rt: a name on a line, and whether it begins with given bytes
 mod rows; // rows.rt: calls worked by hand
 mod searches; // searches.rt: names looked for among keys
 
-use std::io;
 
-fn main(rt: HostRuntime) -> io::Result<()> {
+fn main(rt: HostRuntime) -> std::io::Result<()> {
     let mut table = [0u8; 4096];
     let n = io::read_full(0, &mut table);
-    rows::rows(rt, show::first(&table, n))?;
-    searches::searches(rt)
+    rows::rows(&rt, show::first(&table, n))?;
+    searches::searches(&rt)
 }
