@@ -6,7 +6,6 @@ mod names; // names.rt: a name on a line, and whether it begins with given bytes
 mod rows; // rows.rt: calls worked by hand
 mod searches; // searches.rt: names looked for among keys
 
-
 fn main(rt: HostRuntime) -> std::io::Result<()> {
     let mut table = [0u8; 4096];
     let n = io::read_full(0, &mut table);

@@ -2,7 +2,7 @@
 use std::fmt;
 
 pub fn blank(name: &[u8]) -> bool {
-    name == b"-"
+    name == b"-".as_slice()
 }
 
 // By the bytes, with no key made.

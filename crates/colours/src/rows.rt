@@ -13,7 +13,13 @@ fn held(s: &[u8], from: usize) -> bool {
     s.iter().skip(from).all(|b| *b == 0xee)
 }
 
-fn held_both(rt: &impl Print, lower: &[u8], low: usize, upper: &[u8], high: usize) -> io::Result<()> {
+fn held_both(
+    rt: &impl Print,
+    lower: &[u8],
+    low: usize,
+    upper: &[u8],
+    high: usize,
+) -> io::Result<()> {
     if held(lower, low) && held(upper, high) {
         print!(rt; ": kept, ")
     } else {
@@ -30,7 +36,11 @@ fn answer(
     match r {
         Ok(ends) => {
             held_both(rt, lower, ends.lower, upper, ends.upper)?;
-            println!(rt; "{} to {}", Hex(first(lower, ends.lower)), Hex(first(upper, ends.upper)))
+            println!(rt;
+                "{} to {}",
+                Hex(first(lower, ends.lower)),
+                Hex(first(upper, ends.upper))
+            )
         }
         Err(e) => {
             held_both(rt, lower, 0, upper, 0)?;
@@ -48,7 +58,14 @@ fn room(line: &[u8], number: usize, buf: &[u8; 16]) -> usize
     if n < all.len() { n } else { all.len() }
 }
 
-fn ask(rt: &impl Print, line: &[u8], ty: &[u32], words: &[u64], pool: &[u8], s: &[u8]) -> io::Result<()> {
+fn ask(
+    rt: &impl Print,
+    line: &[u8],
+    ty: &[u32],
+    words: &[u64],
+    pool: &[u8],
+    s: &[u8],
+) -> io::Result<()> {
     let mut lower = [0xeeu8; 16];
     let mut upper = [0xeeu8; 16];
     let low = room(line, 4, &lower);

@@ -161,7 +161,10 @@ fn wrong_ends(rt: &impl Print, search: Search, buffer: &[u8], n: usize) -> io::R
 
 fn look(rt: &impl Print, search: Search) -> io::Result<()> {
     let Search {
-        kind, tank, start, ..
+        kind,
+        tank,
+        start,
+        ..
     } = search;
     let ty = [5, 2, 3, 7, kind];
     let words = [5, 1, 3, tank.len() as u64];
@@ -202,7 +205,10 @@ fn colours(rt: &impl Print, list: &[u8]) -> io::Result<()> {
 
 pub fn searches(rt: &impl Print) -> io::Result<()> {
     println!(rt; "colour names")?;
-    colours(rt, b"r/rd/re/re\x00/re\x00\x00/re\x00d/red/reed/rf/\xc3\xa9/\xc3\xa9cru/-")?;
+    colours(
+        rt,
+        b"r/rd/re/re\x00/re\x00\x00/re\x00d/red/reed/rf/\xc3\xa9/\xc3\xa9cru/-",
+    )?;
     println!(rt; "names of bytes")?;
     each(
         rt,

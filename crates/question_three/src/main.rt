@@ -9,11 +9,21 @@ use std::io;
 fn verdict(rt: &impl Print, batch: &[u8], lower: &[u8], upper: &[u8]) -> io::Result<()> {
     print!(rt; "  batch {}", Hex(batch))?;
     if blocks::compare(batch, lower).is_lt() {
-        println!(rt; " may not be dosed: its key is below the tank's lower end {}", Hex(lower))
+        println!(rt;
+            " may not be dosed: its key is below the tank's lower end {}",
+            Hex(lower)
+        )
     } else if blocks::compare(batch, upper).is_lt() {
-        println!(rt; " may be dosed: its key lies from {} up to {}", Hex(lower), Hex(upper))
+        println!(rt;
+            " may be dosed: its key lies from {} up to {}",
+            Hex(lower),
+            Hex(upper)
+        )
     } else {
-        println!(rt; " may not be dosed: its key is not below the tank's upper end {}", Hex(upper))
+        println!(rt;
+            " may not be dosed: its key is not below the tank's upper end {}",
+            Hex(upper)
+        )
     }
 }
 
@@ -25,7 +35,12 @@ fn ask(rt: &impl Print, tank: &[u8], batches: [&[u8]; 2]) -> io::Result<()> {
         Err(e) => println!(rt; "{e}"),
         Ok(ends) => {
             for batch in batches {
-                verdict(rt, batch, first(&lower, ends.lower), first(&upper, ends.upper))?;
+                verdict(
+                    rt,
+                    batch,
+                    first(&lower, ends.lower),
+                    first(&upper, ends.upper),
+                )?;
             }
             Ok(())
         }

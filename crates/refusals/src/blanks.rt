@@ -21,20 +21,30 @@ fn lengths(rt: &impl Print) -> io::Result<()> {
     let mut out = [0u8; 65532];
     let mut two = [0u8; 2];
     println!(rt; "their length")?;
-    encoded_length(rt, encode::encode_key(
-        &[5, 2, 7, 1, 3],
-        &[5, 2, 0, 3, 65528],
-        &[1u8; 65528],
-        &mut out,
-    ))?;
-    encoded_length(rt, encode::encode_key(
-        &[5, 2, 7, 1, 3],
-        &[5, 2, 0, 3, 65529],
-        &[1u8; 65529],
-        &mut out,
-    ))?;
-    encoded_length(rt, encode::encode_key(&[7, 3], &[3, 65530], &[1u8; 65530], &mut out))?;
-    encoded(rt, 
+    encoded_length(
+        rt,
+        encode::encode_key(
+            &[5, 2, 7, 1, 3],
+            &[5, 2, 0, 3, 65528],
+            &[1u8; 65528],
+            &mut out,
+        ),
+    )?;
+    encoded_length(
+        rt,
+        encode::encode_key(
+            &[5, 2, 7, 1, 3],
+            &[5, 2, 0, 3, 65529],
+            &[1u8; 65529],
+            &mut out,
+        ),
+    )?;
+    encoded_length(
+        rt,
+        encode::encode_key(&[7, 3], &[3, 65530], &[1u8; 65530], &mut out),
+    )?;
+    encoded(
+        rt,
         encode::encode_key(&[5, 2, 7, 3, 1], &[5, 2, 0, 1, 7], b"", &mut two),
         b"",
     )
@@ -50,7 +60,10 @@ fn at_the_top(rt: &impl Print) -> io::Result<()> {
     decode_key_line(rt, &[7, 5, 1, 1], b"\x22\x49\x07\x00")?;
     decode_key_line(rt, &[7, 5, 1, 1], b"\x49\x07")?;
     bounds_line(rt, &[7, 5, 1, 1], b"\x00", 0)?;
-    length_line(rt, key::replace(&[7, 5, 1, 1], &mut buffer, 1, 0, &[0], b""))
+    length_line(
+        rt,
+        key::replace(&[7, 5, 1, 1], &mut buffer, 1, 0, &[0], b""),
+    )
 }
 
 // A first byte that is no null at its depth is read as the type behind word 7.
@@ -102,7 +115,10 @@ fn counted(rt: &impl Print) -> io::Result<()> {
     decode_key_line(rt, &[5, 2, 7, 1, 7, 1], b"\x00\x22")?;
     decode_key_line(rt, &[5, 2, 7, 1, 7, 1], b"\x00")?;
     decode_key_line(rt, &[5, 2, 7, 3, 1], b"\x00\x49\x07")?;
-    decoded(rt, decode::decode_key(&[5, 2, 7, 3, 1], b"\x00\x49\x07", &mut four, &mut none))
+    decoded(
+        rt,
+        decode::decode_key(&[5, 2, 7, 3, 1], b"\x00\x49\x07", &mut four, &mut none),
+    )
 }
 
 // Null comes first, and skip passes a key's blank where no escape is required.

@@ -26,7 +26,9 @@ pub fn key_line(rt: &impl Print, ty: &[u32], words: &[u64], pool: &[u8]) -> io::
 // The values begun stand behind each answer of decoding.
 pub fn decoded(rt: &impl Print, r: Result<Decoded, Refused>) -> io::Result<()> {
     match r {
-        Ok(Decoded { words, pool, begun }) => println!(rt; "words {words} pool {pool}\nbegun {begun}"),
+        Ok(Decoded { words, pool, begun }) => println!(rt;
+            "words {words} pool {pool}\nbegun {begun}"
+        ),
         Err(Refused { why, begun }) => println!(rt; "{why}\nbegun {begun}"),
     }
 }

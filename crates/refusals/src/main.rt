@@ -209,7 +209,10 @@ fn nested_records(rt: &impl Print) -> io::Result<()> {
 }
 
 fn bytes_key(rt: &impl Print, pool: &[u8], out: &mut [u8]) -> io::Result<()> {
-    encoded_length(rt, encode::encode_key(&[3], &[3, pool.len() as u64], pool, out))
+    encoded_length(
+        rt,
+        encode::encode_key(&[3], &[3, pool.len() as u64], pool, out),
+    )
 }
 
 fn longest_key(rt: &impl Print) -> io::Result<()> {
@@ -220,14 +223,14 @@ fn longest_key(rt: &impl Print) -> io::Result<()> {
 }
 
 fn main(rt: HostRuntime) -> io::Result<()> {
-    of_the_bytes(rt)?;
-    of_the_value(rt)?;
-    of_the_port(rt)?;
-    encoded_keys(rt)?;
-    decoded_keys(rt)?;
-    skipped_fields(rt)?;
-    nested_records(rt)?;
-    longest_key(rt)?;
-    blanks::blanks(rt)?;
-    spans::spans(rt)
+    of_the_bytes(&rt)?;
+    of_the_value(&rt)?;
+    of_the_port(&rt)?;
+    encoded_keys(&rt)?;
+    decoded_keys(&rt)?;
+    skipped_fields(&rt)?;
+    nested_records(&rt)?;
+    longest_key(&rt)?;
+    blanks::blanks(&rt)?;
+    spans::spans(&rt)
 }

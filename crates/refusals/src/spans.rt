@@ -11,7 +11,13 @@ fn held(s: &[u8], from: usize) -> bool {
     s.iter().skip(from).all(|b| *b == 0xee)
 }
 
-fn held_line(rt: &impl Print, lower: &[u8], low: usize, upper: &[u8], high: usize) -> io::Result<()> {
+fn held_line(
+    rt: &impl Print,
+    lower: &[u8],
+    low: usize,
+    upper: &[u8],
+    high: usize,
+) -> io::Result<()> {
     if held(lower, low) && held(upper, high) {
         println!(rt; "kept")
     } else {
@@ -28,7 +34,12 @@ fn end_line(rt: &impl Print, s: &[u8], n: usize) -> io::Result<()> {
     }
 }
 
-fn ends_lines(rt: &impl Print, r: Result<Ends, Refusal>, lower: &[u8], upper: &[u8]) -> io::Result<()> {
+fn ends_lines(
+    rt: &impl Print,
+    r: Result<Ends, Refusal>,
+    lower: &[u8],
+    upper: &[u8],
+) -> io::Result<()> {
     match r {
         Ok(ends) => {
             end_line(rt, lower, ends.lower)?;
@@ -43,7 +54,14 @@ fn ends_lines(rt: &impl Print, r: Result<Ends, Refusal>, lower: &[u8], upper: &[
 }
 
 // A span with room for sixteen bytes in each buffer, its lowest and highest without a pool.
-fn span_line(rt: &impl Print, ty: &[u32], words: &[u64], pool: &[u8], lowest: &[u64], highest: &[u64]) -> io::Result<()> {
+fn span_line(
+    rt: &impl Print,
+    ty: &[u32],
+    words: &[u64],
+    pool: &[u8],
+    lowest: &[u64],
+    highest: &[u64],
+) -> io::Result<()> {
     let mut lower = [0xeeu8; 16];
     let mut upper = [0xeeu8; 16];
     let r = key::span(
@@ -113,7 +131,12 @@ fn names(rt: &impl Print) -> io::Result<()> {
 fn kinds(rt: &impl Print) -> io::Result<()> {
     println!(rt; "every kind of field")?;
     names(rt)?;
-    field_line(rt, &[5, 1, 4, 7], &[4, 0x700_0000_0001], &[4, 0x7ff_ffff_ffff])?;
+    field_line(
+        rt,
+        &[5, 1, 4, 7],
+        &[4, 0x700_0000_0001],
+        &[4, 0x7ff_ffff_ffff],
+    )?;
     field_line(rt, &[5, 1, 5, 1, 1], &[5, 1, 1, 0], &[5, 1, 1, 1])?;
     field_line(rt, &[5, 1, 6, 2, 1, 1, 2, 2], &[6, 1, 1, 0], &[6, 2, 2, 0])
 }
@@ -176,7 +199,13 @@ fn values_next(rt: &impl Print) -> io::Result<()> {
 }
 
 // Behind tank 0A, in the caller's buffers.
-fn room_line(rt: &impl Print, lowest: u64, highest: &[u64], lower: &mut [u8], upper: &mut [u8]) -> io::Result<()> {
+fn room_line(
+    rt: &impl Print,
+    lowest: u64,
+    highest: &[u64],
+    lower: &mut [u8],
+    upper: &mut [u8],
+) -> io::Result<()> {
     let r = key::span(
         &[5, 2, 3, 1],
         &[5, 1, 3, 1],
@@ -202,8 +231,15 @@ fn rooms_last(rt: &impl Print) -> io::Result<()> {
 
 // 2^41 is longer than 0 by six bytes.
 fn long_upper(rt: &impl Print) -> io::Result<()> {
-    room_line(rt, 0, &[1, 0x200_0000_0000], &mut [0xeeu8; 4], &mut [0xeeu8; 4])?;
-    room_line(rt, 
+    room_line(
+        rt,
+        0,
+        &[1, 0x200_0000_0000],
+        &mut [0xeeu8; 4],
+        &mut [0xeeu8; 4],
+    )?;
+    room_line(
+        rt,
         0,
         &[1, 0x200_0000_0000],
         &mut [0xeeu8; 4],

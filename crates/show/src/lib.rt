@@ -2,8 +2,7 @@
 #![tactic(auto)]
 
 use format::Refusal;
-use std::fmt;
-use std::io;
+use std::{fmt, io};
 
 /// Bytes in hexadecimal.
 #[derive(Clone, Copy)]

@@ -112,12 +112,12 @@ fn others(rt: &impl Print) -> io::Result<()> {
 }
 
 fn main(rt: HostRuntime) -> io::Result<()> {
-    integers(rt)?;
-    readings(rt)?;
-    strings(rt)?;
-    sheets(rt)?;
-    others(rt)?;
-    searches::searches(rt)?;
-    least_ends::least_ends(rt)?;
-    optional::optional(rt)
+    integers(&rt)?;
+    readings(&rt)?;
+    strings(&rt)?;
+    sheets(&rt)?;
+    others(&rt)?;
+    searches::searches(&rt)?;
+    least_ends::least_ends(&rt)?;
+    optional::optional(&rt)
 }

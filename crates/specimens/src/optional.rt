@@ -11,7 +11,9 @@ fn sheet_line(rt: &impl Print, ty: &[u32]) -> io::Result<()> {
 }
 
 fn before_a_type(rt: &impl Print) -> io::Result<()> {
-    println!(rt; "word 7: at the top, as a field, an alternative, behind a tag and a predicate of 7, with a group between")?;
+    println!(rt;
+        "word 7: at the top, as a field, an alternative, behind a tag and a predicate of 7, with a group between"
+    )?;
     sheet_line(rt, &[7, 1])?;
     sheet_line(rt, &[5, 2, 7, 3, 1])?;
     sheet_line(rt, &[6, 1, 1, 7, 1])?;
@@ -21,7 +23,9 @@ fn before_a_type(rt: &impl Print) -> io::Result<()> {
 }
 
 fn before_none(rt: &impl Print) -> io::Result<()> {
-    println!(rt; "before another 7, at the end, before a word that is no kind, with a word too many")?;
+    println!(rt;
+        "before another 7, at the end, before a word that is no kind, with a word too many"
+    )?;
     sheet_line(rt, &[7, 7, 1])?;
     sheet_line(rt, &[6, 1, 7, 7, 7, 1])?;
     sheet_line(rt, &[7])?;

@@ -8,7 +8,10 @@ fn search_line(rt: &impl Print, ty: &[u32], at: usize, tag: u64) -> io::Result<(
     }
     let found = sheet::alternative(ty, at, tag);
     let place = found.place.unwrap_or(0);
-    println!(rt; "tag {tag}: place {place}, left {}, looked at {}", found.left, found.looked)
+    println!(rt;
+        "tag {tag}: place {place}, left {}, looked at {}",
+        found.left, found.looked
+    )
 }
 
 fn repeated_tags(rt: &impl Print) -> io::Result<()> {
@@ -51,9 +54,24 @@ fn ninety_alternatives(rt: &impl Print) -> io::Result<()> {
 // The first sheet has an optional type among those that are passed.
 fn other_types(rt: &impl Print) -> io::Result<()> {
     println!(rt; "alternatives of other types, none, a union inside a record")?;
-    search_line(rt, &[6u32, 4, 0, 5, 3, 1, 1, 1, 1, 7, 1, 2, 6, 0, 2, 2], 0, 2)?;
-    search_line(rt, &[6u32, 4, 0, 5, 3, 1, 1, 1, 1, 4, 7, 2, 6, 0, 2, 2], 0, 2)?;
-    search_line(rt, &[6u32, 4, 0, 5, 3, 1, 1, 1, 1, 4, 7, 2, 6, 0, 2, 2], 0, 3)?;
+    search_line(
+        rt,
+        &[6u32, 4, 0, 5, 3, 1, 1, 1, 1, 7, 1, 2, 6, 0, 2, 2],
+        0,
+        2,
+    )?;
+    search_line(
+        rt,
+        &[6u32, 4, 0, 5, 3, 1, 1, 1, 1, 4, 7, 2, 6, 0, 2, 2],
+        0,
+        2,
+    )?;
+    search_line(
+        rt,
+        &[6u32, 4, 0, 5, 3, 1, 1, 1, 1, 4, 7, 2, 6, 0, 2, 2],
+        0,
+        3,
+    )?;
     search_line(rt, &[6u32, 0], 0, 0)?;
     search_line(rt, &[5u32, 1, 6, 2, 1, 5, 0, 1, 2], 2, 1)
 }

@@ -7,7 +7,10 @@ use tuple::answers::Encoded;
 use tuple::sheets;
 
 fn answer(rt: &impl Print, call: &str, a: Encoded) -> io::Result<()> {
-    print!(rt; "{call} {} {} {} {}", a.refusal, a.detail, a.length, a.zeros)
+    print!(rt;
+        "{call} {} {} {} {}",
+        a.refusal, a.detail, a.length, a.zeros
+    )
 }
 
 fn answer_line(rt: &impl Print, call: &str, a: Encoded, out: &[u8]) -> io::Result<()> {
@@ -19,12 +22,24 @@ fn answer_line(rt: &impl Print, call: &str, a: Encoded, out: &[u8]) -> io::Resul
 }
 
 // A value encoded as a key, with room for so many bytes.
-fn key_in(rt: &impl Print, ty: &[u32], words: &[u64], pool: &[u8], out: &mut [u8]) -> io::Result<()> {
+fn key_in(
+    rt: &impl Print,
+    ty: &[u32],
+    words: &[u64],
+    pool: &[u8],
+    out: &mut [u8],
+) -> io::Result<()> {
     let a = sheets::tuple_encode_key(ty, words, pool, out);
     answer_line(rt, "key", a, out)
 }
 
-fn typed_in(rt: &impl Print, ty: &[u32], words: &[u64], pool: &[u8], out: &mut [u8]) -> io::Result<()> {
+fn typed_in(
+    rt: &impl Print,
+    ty: &[u32],
+    words: &[u64],
+    pool: &[u8],
+    out: &mut [u8],
+) -> io::Result<()> {
     let a = sheets::tuple_encode_typed(ty, words, pool, out);
     answer_line(rt, "typed", a, out)
 }
@@ -54,7 +69,8 @@ fn others(rt: &impl Print) -> io::Result<()> {
     both(rt, &[6, 1, 256, 3], &[6, 256, 3, 0], b"")?;
     both(rt, &[5, 1, 7, 3], &[5, 1, 0], b"")?;
     both(rt, &[5, 1, 5, 0], &[5, 1, 5, 0], b"")?;
-    both(rt, 
+    both(
+        rt,
         &[5, 4, 1, 4, 7, 7, 3, 3],
         &[5, 4, 1, 256, 4, 0x700_0000_0001, 0, 3, 1],
         b"\x00",
@@ -64,14 +80,16 @@ fn others(rt: &impl Print) -> io::Result<()> {
 // Groups pass the sum upward, from every depth and from every field.
 fn sums(rt: &impl Print) -> io::Result<()> {
     println!(rt; "sums")?;
-    both(rt, 
+    both(
+        rt,
         &[5, 3, 3, 5, 1, 2, 6, 1, 1, 3],
         &[5, 3, 3, 1, 5, 1, 2, 2, 6, 1, 3, 1],
         b"\x00\x00\x00\x00",
     )?;
     both(rt, &[5, 2, 3, 3], &[5, 2, 3, 2, 3, 1], b"\x00\x00\x01")?;
     both(rt, &[5, 2, 3, 3], &[5, 2, 3, 2, 3, 1], b"\x01\x01\x00")?;
-    both(rt, 
+    both(
+        rt,
         &[5, 2, 5, 2, 5, 1, 3, 3, 7, 2],
         &[5, 2, 5, 2, 5, 1, 3, 2, 3, 1, 2, 3],
         b"\x00\x00\x00\x00\x00\x00",
@@ -96,12 +114,14 @@ fn many(rt: &impl Print) -> io::Result<()> {
     let pool = [0u8; 40000];
     let mut out = [1u8; 80002];
     println!(rt; "40,000 zeros")?;
-    answer(rt, 
+    answer(
+        rt,
         "key",
         sheets::tuple_encode_key(&[3], &[3, 40000], &pool, &mut out),
     )?;
     println!(rt; "")?;
-    answer(rt, 
+    answer(
+        rt,
         "typed",
         sheets::tuple_encode_typed(&[3], &[3, 40000], &pool, &mut out),
     )?;
@@ -109,9 +129,9 @@ fn many(rt: &impl Print) -> io::Result<()> {
 }
 
 fn main(rt: HostRuntime) -> io::Result<()> {
-    runs(rt)?;
-    others(rt)?;
-    sums(rt)?;
-    refused(rt)?;
-    many(rt)
+    runs(&rt)?;
+    others(&rt)?;
+    sums(&rt)?;
+    refused(&rt)?;
+    many(&rt)
 }

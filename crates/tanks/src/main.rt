@@ -21,13 +21,7 @@ fn taken_in(rt: &impl Print, a: bool, b: bool) -> io::Result<()> {
     println!(rt; "")
 }
 
-fn ends_line(
-    rt: &impl Print,
-    a: &[u8],
-    b: &[u8],
-    lower: &[u8],
-    upper: &[u8],
-) -> io::Result<()> {
+fn ends_line(rt: &impl Print, a: &[u8], b: &[u8], lower: &[u8], upper: &[u8]) -> io::Result<()> {
     print!(rt; "{} to {}", Hex(lower), Hex(upper))?;
     taken_in(rt, between(a, lower, upper), between(b, lower, upper))
 }
@@ -116,7 +110,8 @@ fn lot_struck_out(rt: &impl Print) -> io::Result<()> {
 // Recipe lines whose lot is blank, beside one whose lot is no bytes.
 fn recipe_lines(rt: &impl Print) -> io::Result<()> {
     println!(rt; "no lot, and a lot of no bytes")?;
-    pair(rt, 
+    pair(
+        rt,
         &[5, 2, 7, 3, 1],
         &[5, 2, 0, 1, 7],
         b"",
@@ -124,7 +119,8 @@ fn recipe_lines(rt: &impl Print) -> io::Result<()> {
         b"",
     )?;
     println!(rt; "no lot, twice")?;
-    pair(rt, 
+    pair(
+        rt,
         &[5, 2, 7, 3, 1],
         &[5, 2, 0, 1, 7],
         b"",
@@ -137,7 +133,8 @@ fn recipe_lines(rt: &impl Print) -> io::Result<()> {
 
 fn main(rt: HostRuntime) -> io::Result<()> {
     println!(rt; "tanks 0A and 0A 00")?;
-    pair(rt, 
+    pair(
+        &rt,
         &[5, 2, 3, 1],
         &[5, 2, 3, 1, 1, 7],
         b"\x0a",
@@ -145,7 +142,8 @@ fn main(rt: HostRuntime) -> io::Result<()> {
         b"\x0a\x00",
     )?;
     println!(rt; "the same inside a record")?;
-    pair(rt, 
+    pair(
+        &rt,
         &[5, 2, 5, 2, 3, 1, 1],
         &[5, 2, 5, 2, 3, 1, 1, 7, 1, 1],
         b"\x0a",
@@ -153,7 +151,8 @@ fn main(rt: HostRuntime) -> io::Result<()> {
         b"\x0a\x00",
     )?;
     println!(rt; "255 and 256")?;
-    pair(rt, 
+    pair(
+        &rt,
         &[5, 2, 1, 1],
         &[5, 2, 1, 255, 1, 7],
         b"",
@@ -161,7 +160,8 @@ fn main(rt: HostRuntime) -> io::Result<()> {
         b"",
     )?;
     println!(rt; "-256 and -257")?;
-    pair(rt, 
+    pair(
+        &rt,
         &[5, 2, 1, 1],
         &[5, 2, 1, 0xffff_ffff_ffff_ff00, 1, 7],
         b"",
@@ -169,7 +169,7 @@ fn main(rt: HostRuntime) -> io::Result<()> {
         b"",
     )?;
     println!(rt; "tank 0A renamed 0A 00")?;
-    renamed(rt)?;
-    recipe_lines(rt)?;
-    spans::spans(rt)
+    renamed(&rt)?;
+    recipe_lines(&rt)?;
+    spans::spans(&rt)
 }

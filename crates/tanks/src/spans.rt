@@ -172,24 +172,29 @@ fn tanks_to(rt: &impl Print) -> io::Result<()> {
         pool: b"\x0a",
     };
     println!(rt; "tanks 09 to 0A")?;
-    span(rt, &[5, 2, 3, 1], plain(&[5, 0]), lowest, highest, |lower, upper| {
-        tanks_in(rt, lower, upper)?;
-        strinc_line(rt, lower, b"\x53\x0a\x00")
-    })
+    span(
+        rt,
+        &[5, 2, 3, 1],
+        plain(&[5, 0]),
+        lowest,
+        highest,
+        |lower, upper| {
+            tanks_in(rt, lower, upper)?;
+            strinc_line(rt, lower, b"\x53\x0a\x00")
+        },
+    )
 }
 
 // A dose into a batch of tank 0A: a key with a field behind the one that the span is on.
-fn dose_line(
-    rt: &impl Print,
-    batch: u64,
-    dose: u64,
-    lower: &[u8],
-    upper: &[u8],
-) -> io::Result<()> {
+fn dose_line(rt: &impl Print, batch: u64, dose: u64, lower: &[u8], upper: &[u8]) -> io::Result<()> {
     let mut out = [0u8; 32];
     let words = [5, 3, 3, 1, 1, batch, 4, dose];
     let dose = key(rt, &[5, 3, 3, 1, 4, 7], &words, b"\x0a", &mut out)?;
-    let lies = if between(dose, lower, upper) { "in" } else { "out" };
+    let lies = if between(dose, lower, upper) {
+        "in"
+    } else {
+        "out"
+    };
     println!(rt; "    {} {lies}", Hex(dose))
 }
 
