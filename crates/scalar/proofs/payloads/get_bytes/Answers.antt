@@ -9,7 +9,7 @@ returns-in_err-run c =
     rw (e.1, e.2) (laws.bytes_refused c.args.bytes.now c.args.scratch.now c.in_err-run.field-0.0 c.in_err-run.ensures)
 
 pub place_payload-requires : goal.place_payload-requires
-place_payload-requires c = laws.bytes_found c.args.bytes.now c.args.scratch.now c.in_ok-run.run c.in_ok-run.ensures
+place_payload-requires c = laws.bytes_found c.args.bytes.now c.args.scratch.now c.in_ok-run.run' c.in_ok-run.ensures
 
 pub returns : goal.returns
-returns c = laws.bytes_placed c.args.bytes.now c.args.scratch.now c.in_ok-run.run c.in_ok-run.ensures c.place_payload.ensures
+returns c = laws.bytes_placed c.args.bytes.now c.args.scratch.now c.in_ok-run.run' c.in_ok-run.ensures c.place_payload.ensures

@@ -10,19 +10,19 @@ returns-in_err-run c =
     rw (e.1, e.2) (laws.str_refused c.args.bytes.now c.args.scratch.now c.in_err-run.field-0.0 c.in_err-run.ensures)
 
 pub slice_bounds-payload_is_text-count : goal.slice_bounds-payload_is_text-count
-slice_bounds-payload_is_text-count c = omega (arith, (laws.str_found c.args.bytes.now c.args.scratch.now c.in_ok-run.run c.in_ok-run.ensures).escapes)
+slice_bounds-payload_is_text-count c = let f = laws.str_found c.args.bytes.now c.args.scratch.now c.in_ok-run.run' c.in_ok-run.ensures in omega (arith, f.escapes, f.within)
 
 pub slice_bounds-payload_is_text-start : goal.slice_bounds-payload_is_text-start
-slice_bounds-payload_is_text-start c = omega (arith, (laws.str_found c.args.bytes.now c.args.scratch.now c.in_ok-run.run c.in_ok-run.ensures).within)
+slice_bounds-payload_is_text-start c = let f = laws.str_found c.args.bytes.now c.args.scratch.now c.in_ok-run.run' c.in_ok-run.ensures in omega (arith, f.escapes, f.within)
 
 pub payload_is_text-requires : goal.payload_is_text-requires
-payload_is_text-requires c = (laws.str_found c.args.bytes.now c.args.scratch.now c.in_ok-run.run c.in_ok-run.ensures).long
+payload_is_text-requires c = (laws.str_found c.args.bytes.now c.args.scratch.now c.in_ok-run.run' c.in_ok-run.ensures).long
 
 pub returns-then-not-payload_is_text : goal.returns-then-not-payload_is_text
-returns-then-not-payload_is_text c = laws.str_bad c.args.bytes.now c.args.scratch.now c.in_ok-run.run c.in_ok-run.ensures c.payload_is_text.ensures c.if-not-payload_is_text.true
+returns-then-not-payload_is_text c = laws.str_bad c.args.bytes.now c.args.scratch.now c.in_ok-run.run' c.in_ok-run.ensures c.payload_is_text.ensures c.if-not-payload_is_text.true
 
 pub place_payload-requires : goal.place_payload-requires
-place_payload-requires c = laws.str_found c.args.bytes.now c.args.scratch.now c.in_ok-run.run c.in_ok-run.ensures
+place_payload-requires c = laws.str_found c.args.bytes.now c.args.scratch.now c.in_ok-run.run' c.in_ok-run.ensures
 
 pub returns : goal.returns
-returns c = laws.str_placed c.args.bytes.now c.args.scratch.now c.in_ok-run.run c.in_ok-run.ensures c.payload_is_text.ensures c.if-not-payload_is_text.false c.place_payload.ensures
+returns c = laws.str_placed c.args.bytes.now c.args.scratch.now c.in_ok-run.run' c.in_ok-run.ensures c.payload_is_text.ensures c.if-not-payload_is_text.false c.place_payload.ensures
