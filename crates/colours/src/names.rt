@@ -11,6 +11,7 @@ pub fn begins(name: &[u8], s: &[u8]) -> bool {
 }
 
 /// A name in brackets; a byte that is no printed ASCII in hexadecimal.
+#[derive(Clone, Copy)]
 pub struct Name<'a>(pub &'a [u8]);
 
 impl<'a> fmt::Display for Name<'a> {
