@@ -1,6 +1,6 @@
 -- A field by its mark: what each function finds behind it.
 use mathlib.Core.Bool.{Bool, true, false, ◌||◌}
-use mathlib.Core.Path.{◌≡◌, refl, sym, ◌∙◌}
+use mathlib.Core.Path.{◌≡◌, refl, sym, ap, ◌∙◌}
 use mathlib.Core.List.{List, [], ◌∷◌}
 use Prim.Native.Nat.{ℕ, ◌+◌, ◌-◌, ◌≤◌, ◌<◌}
 use native.Mathlib.Omega.{arith}
@@ -82,6 +82,13 @@ number_short escape depth (m ∷ s) z k =
 
 -- ---- any other field
 
+-- a null's escape is due where it is asked for, and else inside a group
+pub due_asked : (escape : Bool) (depth : ℕ) {q : Bool} → q ≡ escape → escape ≡ true → q ≡ (escape || ltb 0 depth)
+due_asked escape depth k e = rw (k, e)
+
+pub due_inside : (escape : Bool) (depth : ℕ) {q : Bool} → q ≡ ltb 0 depth → escape ≡ false → q ≡ (escape || ltb 0 depth)
+due_inside escape depth k e = rw (k, e)
+
 begins : (s : List ℕ) {m : ℕ} → Some m ≡ slice_get s 0 → Begins s m
 begins [] e = let z : ◌≡◌ {A = ℕ} 0 1 = cc in absurd (omega arith)
 begins (x ∷ s) e = record { some = omega arith; first = cc }
@@ -104,10 +111,10 @@ module _ (escape : Bool) (depth : ℕ) where
 
   module _ (s : List ℕ) (b : Begins s 0x00) {q : Bool} (e : q ≡ (escape || ltb 0 depth)) where
     pub null_passed : {n : ℕ} → ok n ≡ end_of s (null_at (if q 1 0) s) → ok (record { value = depth; used = n }) ≡ taken_from s (field escape depth s)
-    null_passed p = rw (← p) (null_field s b q e)
+    null_passed p = ap (λ a. and_then a (λ n. ok (record { value = depth; used = n }))) p ∙ null_field s b q e
 
     pub null_refused : {n d : ℕ} → refused n d ≡ end_of s (null_at (if q 1 0) s) → refused n d ≡ taken_from s (field escape depth s)
-    null_refused p = rw (← p) (null_field s b q e)
+    null_refused p = ap (λ a. and_then a (λ n. ok (record { value = depth; used = n }))) p ∙ null_field s b q e
 
   -- a union: its depth, then its discriminant
   union_read : (s : List ℕ) → depth < 256 → (x : Read ℕ)

@@ -1,24 +1,18 @@
-use Rattle.std.proofs.Common.{rules, ◌≡◌, true, ◌&&◌, ltb, eqb, get_or, ℕ, ◌+◌, ◌-◌, ◌*◌, ◌<◌, ◌≤◌, length, ◌/◌, ◌%◌, Bool, false, List, [], ◌∷◌, ◌++◌, slice_set, bit_and, bit_or, Fits, w8, w32, w64, Bor, MutBor}
-use Rattle.format.specs.Refusals.{answered}
-use Rattle.format.specs.Encode.{max_depth}
-use Rattle.format.specs.Read.{ends_here}
-use Rattle.format.specs.Fields.{taken_from}
-use Rattle.format.specs.Calls.{skip_call}
-use Rattle.skip.specs.Tokens.{token_of, field, number_mark, run_mark, Begins, RunEnds, Left}
+-- By the mark: a union, a null, a record too deep, a number cut short, or no mark.
+use Rattle.skip.proofs.Marks as laws
 use Rattle.skip.proofs.left_token.Goals as goal
 
--- src/lib.rt:60:9
 pub returns-in_default : goal.returns-in_default
-returns-in_default c = ?
+returns-in_default c = laws.left_none _ _ _ c.in_default.ensures.value
 
--- src/lib.rt:55:1
 pub returns-in-34 : goal.returns-in-34
-returns-in-34 c = ?
+returns-in-34 c = laws.left_deep _ _ _ c.requires c.in-Some.ensures.value c.in-34.is
 
--- src/lib.rt:55:1
 pub returns-in_default-mark : goal.returns-in_default-mark
-returns-in_default-mark c = ?
+returns-in_default-mark c = laws.left_cut _ _ _ c.requires c.in-Some.ensures.value c.if-number_mark.ensures
 
--- src/lib.rt:55:1
 pub returns-in_default-2 : goal.returns-in_default-2
-returns-in_default-2 c = ?
+returns-in_default-2 c =
+    let b = c.in-Some.ensures.value in
+    let e = c.if-number_mark.ensures in
+    search laws.left_other

@@ -1,16 +1,20 @@
-use Rattle.std.proofs.Common.{rules, ◌≡◌, true, ◌&&◌, ltb, eqb, get_or, ℕ, ◌+◌, ◌-◌, ◌*◌, ◌<◌, ◌≤◌, length, ◌/◌, ◌%◌, Bool, false, List, [], ◌∷◌, ◌++◌, slice_set, bit_and, bit_or, Fits, w8, w32, w64, Bor, MutBor}
-use Rattle.format.specs.Refusals.{answered}
-use Rattle.format.specs.Encode.{max_depth}
-use Rattle.format.specs.Read.{ends_here}
-use Rattle.format.specs.Fields.{taken_from}
-use Rattle.format.specs.Calls.{skip_call}
-use Rattle.skip.specs.Tokens.{token_of, field, number_mark, run_mark, Begins, RunEnds, Left}
+-- The escape is due inside a group, and where it is required.
+use Rattle.std.proofs.lemmas.Result.{err_from_is_err_and}
+use Rattle.skip.proofs.Marks as laws
+use Rattle.skip.proofs.null_token.Goals.{then-escape, else-escape}
 use Rattle.skip.proofs.null_token.Goals as goal
 
--- src/lib.rt:30:13
 pub returns-in_err-n : goal.returns-in_err-n
-returns-in_err-n c = ?
+returns-in_err-n c =
+    let p = err_from_is_err_and c.from_residual.result c.from_residual.ensures.1 in
+    rw (p.1, p.2)
+    (elim c.if-escape.branch [
+      then-escape w ↦ laws.null_refused _ _ _ c.requires (laws.due_asked _ _ w.null-is w.if-escape.true) c.in_err-n.ensures
+    | else-escape w ↦ laws.null_refused _ _ _ c.requires (laws.due_inside _ _ w.null-is w.if-escape.false) c.in_err-n.ensures
+    ])
 
--- src/lib.rt:26:1
 pub returns : goal.returns
-returns c = ?
+returns c = elim c.if-escape.branch [
+    then-escape w ↦ laws.null_passed _ _ _ c.requires (laws.due_asked _ _ w.null-is w.if-escape.true) c.in_ok-n.ensures
+  | else-escape w ↦ laws.null_passed _ _ _ c.requires (laws.due_inside _ _ w.null-is w.if-escape.false) c.in_ok-n.ensures
+]

@@ -1,16 +1,9 @@
-use Rattle.std.proofs.Common.{rules, ◌≡◌, true, ◌&&◌, ltb, eqb, get_or, ℕ, ◌+◌, ◌-◌, ◌*◌, ◌<◌, ◌≤◌, length, ◌/◌, ◌%◌, Bool, false, List, [], ◌∷◌, ◌++◌, slice_set, bit_and, bit_or, Fits, w8, w32, w64, Bor, MutBor}
-use Rattle.format.specs.Refusals.{answered}
-use Rattle.format.specs.Encode.{max_depth}
-use Rattle.format.specs.Read.{ends_here}
-use Rattle.format.specs.Fields.{taken_from}
-use Rattle.format.specs.Calls.{skip_call}
-use Rattle.skip.specs.Tokens.{token_of, field, number_mark, run_mark, Begins, RunEnds, Left}
+-- A run is passed over where `run_end` found its terminator.
+use Rattle.skip.proofs.Plain as laws
 use Rattle.skip.proofs.run_len.Goals as goal
 
--- src/lib.rt:88:9
 pub returns-then-rest-end : goal.returns-then-rest-end
-returns-then-rest-end c = ?
+returns-then-rest-end c = search laws.run_cut
 
--- src/lib.rt:82:1
 pub returns : goal.returns
-returns c = ?
+returns c = search laws.run_ends

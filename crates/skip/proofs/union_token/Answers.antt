@@ -1,20 +1,15 @@
-use Rattle.std.proofs.Common.{rules, ◌≡◌, true, ◌&&◌, ltb, eqb, get_or, ℕ, ◌+◌, ◌-◌, ◌*◌, ◌<◌, ◌≤◌, length, ◌/◌, ◌%◌, Bool, false, List, [], ◌∷◌, ◌++◌, slice_set, bit_and, bit_or, Fits, w8, w32, w64, Bor, MutBor}
-use Rattle.format.specs.Refusals.{answered}
-use Rattle.format.specs.Encode.{max_depth}
-use Rattle.format.specs.Read.{ends_here}
-use Rattle.format.specs.Fields.{taken_from}
-use Rattle.format.specs.Calls.{skip_call}
-use Rattle.skip.specs.Tokens.{token_of, field, number_mark, run_mark, Begins, RunEnds, Left}
+-- Too deep first; below 256 what opened is what the field opens, one deeper.
+use Rattle.std.proofs.lemmas.Result.{err_from_is_err_and}
+use Rattle.skip.proofs.Marks as laws
 use Rattle.skip.proofs.union_token.Goals as goal
 
--- src/lib.rt:40:9
 pub returns-then-depth-ge-MAX_RECORD_DEPTH : goal.returns-then-depth-ge-MAX_RECORD_DEPTH
-returns-then-depth-ge-MAX_RECORD_DEPTH c = ?
+returns-then-depth-ge-MAX_RECORD_DEPTH c = search laws.union_deep
 
--- src/lib.rt:42:15
 pub returns-in_err-tag : goal.returns-in_err-tag
-returns-in_err-tag c = ?
+returns-in_err-tag c =
+    let p = err_from_is_err_and c.from_residual.result c.from_residual.ensures.1 in
+    rw (p.1, p.2) (laws.union_refused _ _ _ c.requires c.if-depth-ge-MAX_RECORD_DEPTH.false c.in_err-tag.ensures)
 
--- src/lib.rt:35:1
 pub returns : goal.returns
-returns c = ?
+returns c = laws.union_passed _ _ _ c.requires c.if-depth-ge-MAX_RECORD_DEPTH.false c.in_ok-tag.ensures
