@@ -10,6 +10,7 @@ fn tail(b: u8) -> bool
 }
 
 // The first two bytes of three.
+#[tactic(auto, unfolding(format::specs::Utf8::lead3))]
 fn leads3(a: u8, b: u8) -> bool
     ensures { result ≡ lead3 a b }
 {
@@ -22,6 +23,7 @@ fn leads3(a: u8, b: u8) -> bool
 }
 
 // The first two bytes of four.
+#[tactic(auto, unfolding(format::specs::Utf8::lead4))]
 fn leads4(a: u8, b: u8) -> bool
     ensures { result ≡ lead4 a b }
 {
