@@ -210,7 +210,9 @@ pub fn fit_fields(
     };
     for passed in 0..n {
         let end_asked = sheet::asks(n - passed, asked);
-        let field = fit_value(ty, words, pool, row.at, row.word, row.pool, depth, end_asked)?;
+        let field = fit_value(
+            ty, words, pool, row.at, row.word, row.pool, depth, end_asked,
+        )?;
         row = Fitted {
             len: row.len + field.len,
             ..field
