@@ -40,19 +40,12 @@ used_most : (b : List ℕ) (x : Read ℕ) → used_of (taken_from b x) ≤ lengt
 used_most b (got a r) = omega arith
 used_most b (bad n d) = omega arith
 
-step_most : (b : List ℕ) (x : Read Unit) → step_of (end_of b x) ≤ length b
-step_most b (got a r) = omega arith
-step_most b (bad n d) = omega arith
-
 module _ (key : List ℕ) (c : Cursor) (b : List ℕ) (e : b ≡ cursor.rest key (cursor_of c)) where
   -- what was taken ends in the key, and past the key's end nothing is taken
   behind : length key < 2 ^ 64 → c.at < 2 ^ 64 → {n : ℕ} → n ≤ length b → c.at + n < 2 ^ 64
   behind h k {n} l = omega (arith, ap length e ∙ length-drop c.at key)
 
   module _ (h : length key < 2 ^ 64) (k : c.at < 2 ^ 64) where
-    pub step_room : (g : Result ℕ Refusal) (x : Read Unit) → answered g ≡ end_of b x → c.at + step_of (answered g) < 2 ^ 64
-    step_room g x p = rw p (behind h k (step_most b x))
-
     module _ (g : Result (Taken ℕ) Refusal) where
       pub int_room : (x : Read ℕ) → got_int g ≡ taken_from b x → c.at + used_of (got_int g) < 2 ^ 64
       int_room x p = rw p (behind h k (used_most b x))
