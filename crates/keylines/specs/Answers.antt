@@ -9,7 +9,7 @@ use Rattle.format.specs.Utf8.{within}
 use Rattle.format.specs.TypeSheet.{is_some, type_of}
 use Rattle.format.specs.Keylist.{max_input, parts_of, type_in, key_in, lines_of, decimal, row, key_row, key_rows, no_type, keylist}
 use Rattle.keylines.specs.Reasons.{bad_word, in_text, reason}
-use Rattle.decode.specs.declared.Refused.{Refused}
+use Rattle.read.specs.declared.Refused.{Refused}
 use Rattle.keylines.specs.declared.first.First.{First}
 use Rattle.keylines.specs.declared.pieces.Left.{Left}
 use Rattle.keylines.specs.declared.pieces.Line.{Line}

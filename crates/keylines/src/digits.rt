@@ -12,6 +12,7 @@ pub fn decimal(b: u8) -> Option<u8>
     }
 }
 
+#[tactic(auto, unfolding(format::specs::Keylist::hex_digit))]
 pub fn hex(b: u8) -> Option<u8>
     ensures { option_of result ≡ hex_digit b }
 {

@@ -21,12 +21,12 @@ fn type_word(text: &[u8]) -> Option<u32>
     u32::try_from(n).ok()
 }
 
-// Puts a word into a buffer; one behind its end is left out.
+// Puts a word into a buffer; one behind its end is left out. Stays: behind `get_mut` a proof knows no element of the buffer.
 fn keep_word(ty: &mut [u32], n: usize, x: u32)
     ensures { ty.new ≡ set ty.old n x }
 {
-    if let Some(word) = ty.get_mut(n) {
-        *word = x;
+    if n < ty.len() {
+        ty[n] = x;
     }
 }
 
