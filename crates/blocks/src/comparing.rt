@@ -3,13 +3,7 @@ ghost use Rattle.std.specs.Prelude.{◌≡◌, true, ◌+◌, ◌≤◌, ◌<◌
 ghost use Rattle.format.specs.Order.{cmp_bytes};
 ghost use Rattle.blocks.specs.Compare.{Same, DifferAt, order_of};
 
-// How two byte strings compare.
-#[derive(Clone, Copy)]
-pub enum Order {
-    Less,
-    Equal,
-    Greater,
-}
+use std::cmp::Ordering;
 
 // Have both k bytes from i on, and the same? A flag and not an exit.
 fn same(a: &[u8], b: &[u8], i: usize, k: usize) -> bool
@@ -65,21 +59,21 @@ pub fn differ_at(a: &[u8], b: &[u8]) -> usize
 }
 
 // How a compares to b.
-pub fn compare(a: &[u8], b: &[u8]) -> Order
+pub fn compare(a: &[u8], b: &[u8]) -> Ordering
     ensures { order_of result ≡ cmp_bytes a.now b.now }
 {
     let i = differ_at(a, b);
     if a.len() <= i {
         if b.len() <= i {
-            return Order::Equal;
+            return Ordering::Equal;
         }
-        return Order::Less;
+        return Ordering::Less;
     }
     if b.len() <= i {
-        return Order::Greater;
+        return Ordering::Greater;
     }
     if a[i] < b[i] {
-        return Order::Less;
+        return Ordering::Less;
     }
-    Order::Greater
+    Ordering::Greater
 }

@@ -6,7 +6,7 @@ mod copying;
 mod low;
 mod zeros;
 
-pub use comparing::{Order, compare, differ_at};
+pub use comparing::{compare, differ_at};
 pub use copying::{copy_clear, copy_front, copy_to, move_within};
 pub use low::{low_blocks, past_ascii};
 pub use zeros::{count_zeros, zero_from};

@@ -6,6 +6,9 @@ ghost use Rattle.format.specs.Fields.{put, get_i64_call, get_u64_call};
 ghost use Rattle.scalar.specs.Answers.{got_int};
 ghost use Rattle.scalar.specs.Numbers.{mark_width, unjudged};
 
+use crate::taken::Taken;
+use format::Refusal;
+
 // From this word on a word means itself less 2^64.
 pub const NEGATIVE: u64 = 0x8000_0000_0000_0000;
 
@@ -88,13 +91,6 @@ pub fn write_i64(buf: &mut [u8], at: usize, w: u64) -> usize
     write_marked(buf, at, format::MARK_INT_ZERO - width as u8, width, !mag)
 }
 
-// An integer and how many bytes it took; or a refusal and its detail.
-#[derive(Clone, Copy)]
-pub enum GotInt {
-    Value(u64, usize),
-    Refused(u32, u64),
-}
-
 // The number that the first k bytes make, high byte first.
 pub fn read_number(s: &[u8], k: usize) -> u64
     requires { (k ≤ 8) × (k ≤ length s.now) }
@@ -145,28 +141,31 @@ pub fn unjudged_len(rest: &[u8]) -> usize
 }
 
 // Reads an unsigned integer.
-pub fn get_u64(bytes: &[u8]) -> GotInt
+pub fn get_u64(bytes: &[u8]) -> Result<Taken<u64>, Refusal>
     ensures { got_int result ≡ get_u64_call bytes.now }
 {
     if bytes.len() == 0 {
-        return GotInt::Refused(format::UNEXPECTED_EOF, 0);
+        return Err(Refusal::UnexpectedEof);
     }
     let mark = bytes[0];
     if mark < format::MARK_INT_ZERO {
-        return GotInt::Refused(format::UNEXPECTED_MARK, format::wide(mark));
+        return Err(Refusal::UnexpectedMark(mark));
     }
     if format::MARK_INT_POS_MAX < mark {
-        return GotInt::Refused(format::UNEXPECTED_MARK, format::wide(mark));
+        return Err(Refusal::UnexpectedMark(mark));
     }
     let width = (mark - format::MARK_INT_ZERO) as usize;
     if bytes.len() - 1 < width {
-        return GotInt::Refused(format::UNEXPECTED_EOF, 0);
+        return Err(Refusal::UnexpectedEof);
     }
     let n = read_number(&bytes[1..], width);
     if int_width(n) != width {
-        return GotInt::Refused(format::BAD_INTEGER, 0);
+        return Err(Refusal::BadInteger);
     }
-    GotInt::Value(n, width + 1)
+    Ok(Taken {
+        value: n,
+        used: width + 1,
+    })
 }
 
 // The complement of a number within so many bytes.
@@ -178,46 +177,45 @@ fn complement(n: u64, width: usize) -> u64
 }
 
 // Reads a negative integer, whose mark has been seen.
-fn get_negative(bytes: &[u8]) -> GotInt
+fn get_negative(bytes: &[u8]) -> Result<Taken<u64>, Refusal>
     requires { (0 < length bytes.now) × (0x40 ≤ slice_index bytes.now 0) × (slice_index bytes.now 0 < 0x48) }
     ensures { got_int result ≡ get_i64_call bytes.now }
 {
     let width = (format::MARK_INT_ZERO - bytes[0]) as usize;
     if bytes.len() - 1 < width {
-        return GotInt::Refused(format::UNEXPECTED_EOF, 0);
+        return Err(Refusal::UnexpectedEof);
     }
     let mag = complement(read_number(&bytes[1..], width), width);
     if int_width(mag) != width {
-        return GotInt::Refused(format::BAD_INTEGER, 0);
+        return Err(Refusal::BadInteger);
     }
     if NEGATIVE < mag {
-        return GotInt::Refused(format::UNDERFLOW, 0);
+        return Err(Refusal::Underflow);
     }
-    GotInt::Value(std::num::wrapping_sub_u64(0, mag), width + 1)
+    Ok(Taken {
+        value: std::num::wrapping_sub_u64(0, mag),
+        used: width + 1,
+    })
 }
 
 // Reads a signed integer as its word.
-pub fn get_i64(bytes: &[u8]) -> GotInt
+pub fn get_i64(bytes: &[u8]) -> Result<Taken<u64>, Refusal>
     ensures { got_int result ≡ get_i64_call bytes.now }
 {
     if bytes.len() == 0 {
-        return GotInt::Refused(format::UNEXPECTED_EOF, 0);
+        return Err(Refusal::UnexpectedEof);
     }
     let mark = bytes[0];
     if mark < format::MARK_INT_ZERO {
         if mark < format::MARK_INT_NEG_MIN {
-            return GotInt::Refused(format::UNEXPECTED_MARK, format::wide(mark));
+            return Err(Refusal::UnexpectedMark(mark));
         }
         return get_negative(bytes);
     }
-    match get_u64(bytes) {
-        GotInt::Value(n, len) => {
-            if n < NEGATIVE {
-                GotInt::Value(n, len)
-            } else {
-                GotInt::Refused(format::OVERFLOW, 0)
-            }
-        }
-        GotInt::Refused(no, detail) => GotInt::Refused(no, detail),
+    let read = get_u64(bytes)?;
+    if read.value < NEGATIVE {
+        Ok(read)
+    } else {
+        Err(Refusal::Overflow)
     }
 }

@@ -3,15 +3,18 @@
 
 pub mod groups;
 pub mod ints;
+mod marks;
 pub mod payloads;
 pub mod puts;
 pub mod refs;
 pub mod runs;
 pub mod starts;
 pub mod tag;
+mod taken;
 
-pub use ints::{GotInt, get_i64, get_u64};
-pub use payloads::{GotPart, get_bytes, get_str, payload};
+pub use ints::{get_i64, get_u64};
+pub use payloads::{Place, get_bytes, get_str, payload};
 pub use puts::{put_bytes, put_fact_id, put_i64, put_str, put_u64};
-pub use refs::{Judged, fact_ref_bytes, get_fact_id, judge};
+pub use refs::{fact_ref_bytes, get_fact_id, judge};
 pub use tag::UnionTag;
+pub use taken::Taken;

@@ -1,55 +1,38 @@
 // Single fields put at a place of a lent buffer.
 ghost use Rattle.std.specs.Prelude.{◌≡◌, ◌+◌, ◌^◌, ◌<◌, ◌∷◌};
-ghost use Rattle.format.specs.Answer.{shown};
-ghost use Rattle.format.specs.Lengths.{length_in, Leaves};
+ghost use Rattle.format.specs.Refusals.{answered, Leaves};
 ghost use Rattle.format.specs.Scalar.{be, escaped};
 ghost use Rattle.format.specs.Fields.{put_at, put_i64_call, put_u64_call, put_str_call, put_bytes_call, put_fact_id_call};
 ghost use Rattle.scalar.specs.Answers.{room_for};
 
 use crate::{ints, runs};
-use format::Length;
-
-// A sum as a detail shows it: past 2^64 - 1 it is that number.
-fn shown_sum(a: u64, b: u64) -> u64
-    ensures { result ≡ shown (a + b) }
-{
-    if 0xffff_ffff_ffff_ffff - a < b {
-        0xffff_ffff_ffff_ffff
-    } else {
-        a + b
-    }
-}
+use format::Refusal;
 
 // The place behind head and n bytes more from a place on, in a buffer of so many bytes. They are two numbers since their sum may not fit.
-pub fn room(len: usize, at: usize, head: usize, n: usize) -> Length
+pub fn room(len: usize, at: usize, head: usize, n: usize) -> Result<usize, Refusal>
     requires { len + head < 2 ^ 64 }
-    ensures { length_in result ≡ room_for len at (head + n) }
+    ensures { answered result ≡ room_for len at (head + n) }
 {
     if len < at {
-        return Length::Refused(format::NO_ROOM, at as u64);
+        return Err(Refusal::NoRoom(at));
     }
     let start = at + head;
-    if len < start {
-        return Length::Refused(format::NO_ROOM, shown_sum(start as u64, n as u64));
+    if len < start || len - start < n {
+        return Err(Refusal::NoRoom(start.saturating_add(n)));
     }
-    if len - start < n {
-        return Length::Refused(format::NO_ROOM, shown_sum(start as u64, n as u64));
-    }
-    Length::Done(start + n)
+    Ok(start + n)
 }
 
 // Puts a mark and the k low bytes of n behind it.
-fn put_marked(buf: &mut [u8], at: usize, mark: u8, k: usize, n: u64) -> Length
+fn put_marked(buf: &mut [u8], at: usize, mark: u8, k: usize, n: u64) -> Result<usize, Refusal>
     ensures { Leaves (put_at buf.old at (mark ∷ be k n)) result buf.new }
 {
-    match room(buf.len(), at, 1, k) {
-        Length::Done(_) => Length::Done(ints::write_marked(buf, at, mark, k, n)),
-        Length::Refused(no, detail) => Length::Refused(no, detail),
-    }
+    room(buf.len(), at, 1, k)?;
+    Ok(ints::write_marked(buf, at, mark, k, n))
 }
 
 // Puts an unsigned integer.
-pub fn put_u64(buf: &mut [u8], at: usize, n: u64) -> Length
+pub fn put_u64(buf: &mut [u8], at: usize, n: u64) -> Result<usize, Refusal>
     ensures { Leaves (put_u64_call buf.old at n) result buf.new }
 {
     let width = ints::int_width(n);
@@ -57,7 +40,7 @@ pub fn put_u64(buf: &mut [u8], at: usize, n: u64) -> Length
 }
 
 // Puts a signed integer, given as its word.
-pub fn put_i64(buf: &mut [u8], at: usize, w: u64) -> Length
+pub fn put_i64(buf: &mut [u8], at: usize, w: u64) -> Result<usize, Refusal>
     ensures { Leaves (put_i64_call buf.old at w) result buf.new }
 {
     if w < ints::NEGATIVE {
@@ -69,40 +52,36 @@ pub fn put_i64(buf: &mut [u8], at: usize, w: u64) -> Length
 }
 
 // Puts a reference.
-pub fn put_fact_id(buf: &mut [u8], at: usize, raw: u64) -> Length
+pub fn put_fact_id(buf: &mut [u8], at: usize, raw: u64) -> Result<usize, Refusal>
     ensures { Leaves (put_fact_id_call buf.old at raw) result buf.new }
 {
     put_marked(buf, at, format::MARK_FACT_REF, 8, raw)
 }
 
 // Puts a payload as a run behind a mark.
-fn put_run(buf: &mut [u8], at: usize, mark: u8, payload: &[u8]) -> Length
+fn put_run(buf: &mut [u8], at: usize, mark: u8, payload: &[u8]) -> Result<usize, Refusal>
     ensures { Leaves (put_at buf.old at (mark ∷ escaped payload.now)) result buf.new }
 {
-    match room(buf.len(), at, 1, runs::escaped_len(payload)) {
-        Length::Done(_) => {
-            buf[at] = mark;
-            let run = runs::write_escaped(buf, at + 1, payload);
-            Length::Done(run.end)
-        }
-        Length::Refused(no, detail) => Length::Refused(no, detail),
-    }
+    room(buf.len(), at, 1, runs::escaped_len(payload))?;
+    buf[at] = mark;
+    let run = runs::write_escaped(buf, at + 1, payload);
+    Ok(run.end)
 }
 
 // Puts bytes.
-pub fn put_bytes(buf: &mut [u8], at: usize, payload: &[u8]) -> Length
+pub fn put_bytes(buf: &mut [u8], at: usize, payload: &[u8]) -> Result<usize, Refusal>
     ensures { Leaves (put_bytes_call buf.old at payload.now) result buf.new }
 {
     put_run(buf, at, format::MARK_BYTES, payload)
 }
 
 // Puts text. Bytes that are not UTF-8 are refused before any room is asked for.
-pub fn put_str(buf: &mut [u8], at: usize, text: &[u8]) -> Length
+pub fn put_str(buf: &mut [u8], at: usize, text: &[u8]) -> Result<usize, Refusal>
     ensures { Leaves (put_str_call buf.old at text.now) result buf.new }
 {
     if text::valid(text) {
         put_run(buf, at, format::MARK_STRING, text)
     } else {
-        Length::Refused(format::BAD_STRING, 0)
+        Err(Refusal::BadString)
     }
 }

@@ -6,7 +6,9 @@ ghost use Rattle.format.specs.Fields.{put};
 ghost use Rattle.scalar.specs.Answers.{got_int, get_fact_id_call, judged_of};
 
 use crate::ints;
-use crate::ints::GotInt;
+use crate::marks::expect_mark;
+use crate::taken::Taken;
+use format::Refusal;
 
 // A reference's sequence.
 pub fn sequence_of(raw: u64) -> u64
@@ -22,25 +24,18 @@ pub fn predicate_of(raw: u64) -> u64
     raw / format::SEQUENCES
 }
 
-// A reference fits its declared predicate; or a refusal and its detail.
-#[derive(Clone, Copy)]
-pub enum Judged {
-    Fits,
-    Refused(u32, u64),
-}
-
 // Judges a reference under a declared predicate: its sequence, then its predicate.
-pub fn judge(predicate: u32, raw: u64) -> Judged
+pub fn judge(predicate: u32, raw: u64) -> Result<(), Refusal>
     ensures { judged_of result ≡ fits_ref predicate raw }
 {
     if sequence_of(raw) == 0 {
-        return Judged::Refused(format::RESERVED_FACT_ID, 0);
+        return Err(Refusal::ReservedFactId);
     }
     let found = predicate_of(raw);
-    if found != format::wide_word(predicate) {
-        return Judged::Refused(format::FACT_REF_PREDICATE, found);
+    if found != u64::from(predicate) {
+        return Err(Refusal::FactRefPredicate(found));
     }
-    Judged::Fits
+    Ok(())
 }
 
 // Writes a reference from a place on, and returns the place behind it.
@@ -61,23 +56,20 @@ pub fn fact_ref_bytes(raw: u64) -> [u8; 9]
 }
 
 // Reads a reference where no type is at hand: only its sequence is checked.
-pub fn get_fact_id(bytes: &[u8]) -> GotInt
+pub fn get_fact_id(bytes: &[u8]) -> Result<Taken<u64>, Refusal>
     ensures { got_int result ≡ get_fact_id_call bytes.now }
 {
-    if bytes.len() == 0 {
-        return GotInt::Refused(format::UNEXPECTED_EOF, 0);
-    }
-    let mark = bytes[0];
-    if mark != format::MARK_FACT_REF {
-        return GotInt::Refused(format::UNEXPECTED_MARK, format::wide(mark));
-    }
+    expect_mark(bytes, format::MARK_FACT_REF)?;
     if bytes.len() < format::FACT_REF_FIELD_LEN {
-        return GotInt::Refused(format::UNEXPECTED_EOF, 0);
+        return Err(Refusal::UnexpectedEof);
     }
     let raw = ints::read_number(&bytes[1..], 8);
     let sequence = sequence_of(raw);
     if sequence == 0 {
-        return GotInt::Refused(format::RESERVED_FACT_ID, 0);
+        return Err(Refusal::ReservedFactId);
     }
-    GotInt::Value(raw, format::FACT_REF_FIELD_LEN)
+    Ok(Taken {
+        value: raw,
+        used: format::FACT_REF_FIELD_LEN,
+    })
 }

@@ -1,66 +1,49 @@
 // Escaped runs: each 00 of the payload is written 00 FF, and a 00 not followed by FF ends the run.
-ghost use Rattle.std.specs.Prelude.{◌≡◌, ◌+◌, ◌≤◌, length, drop};
+ghost use Rattle.std.specs.Prelude.{◌≡◌, ◌+◌, ◌≤◌, length};
+ghost use Rattle.format.specs.Refusals.{answered};
 ghost use Rattle.format.specs.Scalar.{escaped};
 ghost use Rattle.format.specs.Utf8.{utf8};
 ghost use Rattle.format.specs.Read.{marked, get_run};
 ghost use Rattle.format.specs.Fields.{put};
 ghost use Rattle.scalar.specs.Runs.{WritesRun, measured, run_end, marked_by, unescape};
 
-// How many bytes the run of a payload has: its own, one more for each zero, and the end.
+use crate::marks::expect_mark;
+use crate::starts;
+use format::Refusal;
+
+// How many bytes the run of a payload has: its beginning, and the end.
 pub fn escaped_len(payload: &[u8]) -> usize
     ensures { result ≡ length (escaped payload.now) }
 {
-    let zeros = blocks::count_zeros(payload);
-    payload.len() + zeros + 1
-}
-
-// Writes what is left of a payload from a place in it on as a run, and returns the place behind it.
-fn write_rest(buf: &mut [u8], at: usize, payload: &[u8], from: usize) -> usize
-    requires { (from ≤ length payload.now) × (at + length (escaped (drop from payload.now)) ≤ length buf.old) }
-    ensures { (result ≡ at + length (escaped (drop from payload.now))) × (buf.new ≡ put buf.old at (escaped (drop from payload.now))) }
-{
-    let mut o: usize = at;
-    let mut i: usize = from;
-    loop {
-        let z = blocks::zero_from(payload, i);
-        blocks::copy_to(buf, o, payload, i, z);
-        o += z - i;
-        if payload.len() <= z {
-            break;
-        }
-        buf[o] = format::MARK_TERM;
-        o += 1;
-        buf[o] = format::MARK_ESCAPE;
-        o += 1;
-        i = z + 1;
-    }
-    buf[o] = format::MARK_TERM;
-    o + 1
+    starts::start_len(payload) + 1
 }
 
 // The place behind what was written, and how many zeros were escaped in it.
-#[derive(Clone, Copy)]
+#[derive(Clone, Copy, Debug, PartialEq, Eq)]
 pub struct Written {
     pub end: usize,
     pub zeros: usize,
 }
 
-// Writes a payload as a run from a place on. Long bytes before the first zero go in one pass. What the run has beside the payload and its end are the escapes.
+// Writes a payload as a run from a place on. What the run has beside the payload and its end are the escapes.
 pub fn write_escaped(buf: &mut [u8], at: usize, payload: &[u8]) -> Written
     requires { at + length (escaped payload.now) ≤ length buf.old }
     ensures { WritesRun buf.old at payload.now result buf.new }
 {
-    let i = blocks::copy_clear(buf, at, payload);
-    let end = write_rest(buf, at + i, payload, i);
-    let zeros = end - at - payload.len() - 1;
-    Written { end, zeros }
+    let end = starts::write_start(buf, at, payload);
+    buf[end] = format::MARK_TERM;
+    let zeros = end - at - payload.len();
+    Written {
+        end: end + 1,
+        zeros,
+    }
 }
 
-// Where a run's terminator is and how many bytes its payload has, if it ends.
-#[derive(Clone, Copy)]
-pub enum Measure {
-    Run(usize, usize),
-    Unended,
+// Where a run's terminator is and how many bytes its payload has.
+#[derive(Clone, Copy, Debug, PartialEq, Eq)]
+pub struct Run {
+    pub end: usize,
+    pub len: usize,
 }
 
 // The place of the terminator of the run whose bytes from a place on are searched, or the length where there is none. A 00 not followed by FF ends it, also as the
@@ -83,43 +66,32 @@ pub fn run_end(bytes: &[u8], from: usize) -> usize
     end
 }
 
-// Measures the run that the bytes begin with. Each zero of its payload has one 00 in the run, and the FF behind it is no payload.
-pub fn measure_run(bytes: &[u8]) -> Measure
+// Measures the run that the bytes begin with, if it ends. Each zero of its payload has one 00 in the run, and the FF behind it is no payload.
+pub fn measure_run(bytes: &[u8]) -> Option<Run>
     ensures { result ≡ measured bytes.now }
 {
     let first = blocks::zero_from(bytes, 0);
     let end = run_end(bytes, first);
     if bytes.len() <= end {
-        return Measure::Unended;
+        return None;
     }
     if end == first {
-        return Measure::Run(end, end);
+        return Some(Run { end, len: end });
     }
-    Measure::Run(end, end - blocks::count_zeros(&bytes[first..end]))
-}
-
-// Where the terminator of a run behind a mark is and how many bytes its payload has; or a refusal and its detail.
-#[derive(Clone, Copy)]
-pub enum MarkedRun {
-    Ends(usize, usize),
-    Refused(u32, u64),
+    let len = end - blocks::count_zeros(&bytes[first..end]);
+    Some(Run { end, len })
 }
 
 // Measures the run behind a mark that the bytes begin with. Its place counts from the mark on.
-pub fn marked_run(bytes: &[u8], mark: u8) -> MarkedRun
-    ensures { result ≡ marked_by bytes.now (marked mark get_run bytes.now) }
+pub fn marked_run(bytes: &[u8], mark: u8) -> Result<Run, Refusal>
+    ensures { answered result ≡ marked_by bytes.now (marked mark get_run bytes.now) }
 {
-    if bytes.len() == 0 {
-        return MarkedRun::Refused(format::UNEXPECTED_EOF, 0);
-    }
-    let found = bytes[0];
-    if found != mark {
-        return MarkedRun::Refused(format::UNEXPECTED_MARK, format::wide(found));
-    }
-    match measure_run(&bytes[1..]) {
-        Measure::Run(end, n) => MarkedRun::Ends(end + 1, n),
-        Measure::Unended => MarkedRun::Refused(format::UNEXPECTED_EOF, 0),
-    }
+    expect_mark(bytes, mark)?;
+    let run = measure_run(&bytes[1..]).ok_or(Refusal::UnexpectedEof)?;
+    Ok(Run {
+        end: run.end + 1,
+        len: run.len,
+    })
 }
 
 // Writes the payload of a run's bytes, those before its terminator, from a place on, and returns the place behind it.

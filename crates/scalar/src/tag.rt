@@ -21,7 +21,7 @@ impl UnionTag {
     {
         let mut bytes = [0u8; UnionTag::MAX_LEN];
         bytes[0] = UnionTag::MARK;
-        let len = ints::write_u64(&mut bytes, 1, format::wide_word(disc));
+        let len = ints::write_u64(&mut bytes, 1, u64::from(disc));
         UnionTag { bytes, len }
     }
 }
