@@ -29,12 +29,12 @@ pub gone : (bytes : List ℕ) (i : ℕ) → length bytes ≤ i → drop i bytes 
 gone bytes i h = drop_of_length-le bytes h
 
 -- an answer is no refusal
-ok_err : {A E B : Type 0} {a : A} {e : E} → Ok a ≡ Err e → B
+ok_err : {A E B : Type 0} {a : A} {e : E} → ◌≡◌ {A = Result A E} (Ok a) (Err e) → B
 ok_err q = let z : ◌≡◌ {A = ℕ} 0 1 = cc in absurd (omega arith)
 
 -- one refusal says one thing
-same : {e f : Refusal} → Err {A = Unit} e ≡ Err f → Decoded.bad {A = Vals} (number_of e) (detail_of e) 0 ≡ Decoded.bad (number_of f) (detail_of f) 0
-same {e} {f} q = let z : e ≡ f = cc in ap (λ (x : Refusal). Decoded.bad (number_of x) (detail_of x) 0) z
+same : {A B : Type 0} {e f : Refusal} → ◌≡◌ {A = Result A Refusal} (Err e) (Err f) → ◌≡◌ {A = Decoded B} (Decoded.bad (number_of e) (detail_of e) 0) (Decoded.bad (number_of f) (detail_of f) 0)
+same {e = e} {f = f} q = let z : e ≡ f = cc in ap (λ (x : Refusal). Decoded.bad (number_of x) (detail_of x) 0) z
 
 -- ---- where fields begin and end
 
@@ -135,8 +135,9 @@ module _ {ty : List ℕ} {at n : ℕ} {bytes : List ℕ} {i depth : ℕ} {asked 
 
     -- the first field's walk: the place behind its type is asked for where a field follows, or where the place behind the last one is
     module _ (y : o ≡ Ok tt) {one : Bool} (asks : (1 < n → one ≡ true) × (asked ≡ true → one ≡ true)) where
-      first_is : {ts : Tys} {e : ℕ} (z : FirstField ty at n ts e) (D : Decoded Val) → decode z.t depth (drop i bytes) ≡ D → fields_at depth ts (drop i bytes) ≡ both D (fields_at depth z.more) Vals.AddVal
-      first_is z D q =
+      first_is : {r : Result Walked Refused} → ValueWalk ty at bytes i depth one r → {ts : Tys} {e : ℕ} (z : FirstField ty at n ts e) (D : Decoded Val) → decode z.t depth (drop i bytes) ≡ D
+          → fields_at depth ts (drop i bytes) ≡ both D (fields_at depth z.more) Vals.AddVal
+      first_is v z D q =
           ap (λ (x : Tys). fields_at depth x (drop i bytes)) z.is ∙ B.yes y z.t z.more ∙ ap (λ (E : Decoded Val). both E (fields_at depth z.more) Vals.AddVal) q
 
       pub f_bad : {f : Refused} → ValueWalk ty at bytes i depth one (Err f) → FieldWalk ty at n bytes i depth asked (Err f)
@@ -144,7 +145,7 @@ module _ {ty : List ℕ} {at n : ℕ} {bytes : List ℕ} {i depth : ℕ} {asked 
         walk = λ ts e s1 s2 m deep.
             let z = first_field nz ts (s2 nz) m deep in
             let q = bad_says (v.walk z.t z.end z.here z.deep) in
-            refuse (first_is z _ q.0) (omega (arith, q.1, z.long));
+            refuse (first_is v z _ q.0) (omega (arith, q.1, z.long));
       }
 
       module _ {x : Walked} (v : ValueWalk ty at bytes i depth one (Ok x)) where
@@ -161,7 +162,7 @@ module _ {ty : List ℕ} {at n : ℕ} {bytes : List ℕ} {i depth : ℕ} {asked 
           walk = λ ts e s1 s2 m deep.
               let z = first_field nz ts (s2 nz) m deep in
               let q = says z in
-              subst (Walks vals_sizes bytes i asked e (length (tys_words ts)) (plus x.words x.pool x.begun r)) (sym (first_is z _ q.is))
+              subst (Walks vals_sizes bytes i asked e (length (tys_words ts)) (plus x.words x.pool x.begun r)) (sym (first_is v z _ q.is))
               (plus_law (Vals.AddVal q.a) x.words x.pool x.begun
               (λ vs. (omega (arith, length-append (val_words q.a) (vals_words vs), q.so.words_are), omega (arith, length-append (val_pool q.a) (vals_pool vs), q.so.pool_is)))
               q.so.short (omega (arith, q.so.few, z.long)) (omega (arith, q.so.small, z.long))

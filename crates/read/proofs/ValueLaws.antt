@@ -70,8 +70,8 @@ module _ {ty : List ℕ} {at tag place left : ℕ} {us : Alts} {e : ℕ} (z : Pi
       }))
 
 -- the ways out of closing one, whose payload was read
-module _ {ty bytes : List ℕ} {left : ℕ} {asked : Bool} {r s : Result Walked Refused} {x : Walked} (e : r ≡ Ok x)
-{o : Result ℕ Refusal} (h : answered o ≡ end_of (take (length bytes - x.next) (drop x.next bytes)) (group_end (take (length bytes - x.next) (drop x.next bytes)))) where
+module _ {ty bytes : List ℕ} {left : ℕ} {asked : Bool} {r s : Result Walked Refused} {x : Walked} (e : r ≡ Ok x) {o : Result ℕ Refusal}
+    (h : answered o ≡ end_of (take (length bytes - x.next) (drop x.next bytes)) (group_end (take (length bytes - x.next) (drop x.next bytes)))) where
   pub c_not : {f : Refusal} → o ≡ Err f → s ≡ Err (bad f x.begun) → ClosesUnion ty bytes left asked r s
   c_not f q = rw (e, q) (unended (rw (part_rest x.next bytes, f) at h))
 

@@ -89,16 +89,24 @@ pub fn walk_fields(
         field_refusal(bytes, sum.next, depth).map_err(|why| Refused { why, begun })?;
         // a name of its own, so that what was lent is read by halves, as it was handed over
         let key = bytes;
-        let more_asked = sheet::asks(n - done, asked);
-        let field = walk_value(ty, sum.at, key, sum.next, depth, more_asked).map_err(|e| e.after(
-            begun,
-        ))?;
-        sum = Walked {
-            words: sum.words + field.words,
-            pool: sum.pool + field.pool,
-            begun: begun + field.begun,
-            ..field
-        };
+        match walk_value(
+            ty,
+            sum.at,
+            key,
+            sum.next,
+            depth,
+            sheet::asks(n - done, asked),
+        ) {
+            Err(refused) => return Err(refused.after(begun)),
+            Ok(field) => {
+                sum = Walked {
+                    words: sum.words + field.words,
+                    pool: sum.pool + field.pool,
+                    begun: begun + field.begun,
+                    ..field
+                };
+            }
+        }
     }
     let begun = sum.begun;
     let next = fields_end(bytes, sum.next, depth).map_err(|why| Refused { why, begun })?;

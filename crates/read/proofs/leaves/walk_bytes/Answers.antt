@@ -3,18 +3,18 @@ use native.Mathlib.Omega.{arith}
 use Rattle.read.proofs.LeafLaws as laws
 use Rattle.read.proofs.leaves.walk_bytes.Goals as goal
 
+pub returns-in_err-run : goal.returns-in_err-run
+returns-in_err-run c = rw c.from_residual.ensures (laws.bytes_bad c.marked_run.ensures c.in_err-run.is)
+
 pub overflow_add-i : goal.overflow_add-i
 overflow_add-i c =
-    let f = laws.run_within 0x53 c.args.rest.now c.marked_run.ensures c.in-Ends.is in
+    let f = laws.run_within 0x53 c.args.rest.now c.marked_run.ensures c.in_ok-run.is in
     omega (arith, f.within)
 
-pub overflow_add-i-in-Ends : goal.overflow_add-i-in-Ends
-overflow_add-i-in-Ends c =
-    let f = laws.run_within 0x53 c.args.rest.now c.marked_run.ensures c.in-Ends.is in
+pub overflow_add-i-2 : goal.overflow_add-i-2
+overflow_add-i-2 c =
+    let f = laws.run_within 0x53 c.args.rest.now c.marked_run.ensures c.in_ok-run.is in
     omega (arith, f.within)
 
-pub returns-in-Refused : goal.returns-in-Refused
-returns-in-Refused c = search laws.bytes_bad
-
-pub returns-in-Ends : goal.returns-in-Ends
-returns-in-Ends c = search laws.bytes_good
+pub returns : goal.returns
+returns c = rw c.leaf.ensures (laws.bytes_good c.marked_run.ensures c.in_ok-run.is)

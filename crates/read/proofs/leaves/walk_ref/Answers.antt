@@ -3,14 +3,14 @@ use native.Mathlib.Omega.{arith}
 use Rattle.read.proofs.LeafLaws as laws
 use Rattle.read.proofs.leaves.walk_ref.Goals as goal
 
+pub returns-in_err-fact : goal.returns-in_err-fact
+returns-in_err-fact c = rw c.from_residual.ensures (laws.ref_bad c.get_fact_id.ensures c.in_err-fact.is)
+
+pub returns-in_err-judge : goal.returns-in_err-judge
+returns-in_err-judge c = rw c.from_residual-in_err-judge.ensures (laws.ref_other c.get_fact_id.ensures c.in_ok-fact.is c.judge.ensures c.in_err-judge.is)
+
 pub overflow_add-i : goal.overflow_add-i
-overflow_add-i c = omega (arith, laws.ref_within _ c.get_fact_id.ensures c.in-Value.is)
+overflow_add-i c = omega (arith, laws.ref_within _ c.get_fact_id.ensures c.in_ok-fact.is)
 
-pub returns-in-Refused : goal.returns-in-Refused
-returns-in-Refused c = search laws.ref_bad
-
-pub returns-in-Refused-judge : goal.returns-in-Refused-judge
-returns-in-Refused-judge c = search laws.ref_other
-
-pub returns-in-Fits : goal.returns-in-Fits
-returns-in-Fits c = search laws.ref_good
+pub returns : goal.returns
+returns c = rw c.leaf.ensures (laws.ref_good c.get_fact_id.ensures c.in_ok-fact.is c.judge.ensures c.in_ok-judge.is)
