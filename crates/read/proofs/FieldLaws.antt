@@ -124,21 +124,21 @@ module _ {ty : List ℕ} {at n : ℕ} {bytes : List ℕ} {i depth : ℕ} {asked 
   pub f_end : n ≤ 0 → {x : Refusal} → Finishes depth bytes i (Err x) → FieldWalk ty at n bytes i depth asked (Err (bad x 0))
   f_end z f = record { walk = λ ts e s1 s2 m deep. refuse (ap (λ (x : Tys). fields_at depth x (drop i bytes)) (no_field z ts m) ∙ f) (omega arith) }
 
-  module _ (nz : 0 < n) {o : Result Unit Refusal} (B : Begins depth (drop i bytes) o) where
+  module _ (nz : 0 < n) where
     -- no field begins here
-    pub f_not : {x : Refusal} → o ≡ Err x → FieldWalk ty at n bytes i depth asked (Err (bad x 0))
-    f_not h = record {
+    pub f_not : {x : Refusal} → Begins depth (drop i bytes) (Err x) → FieldWalk ty at n bytes i depth asked (Err (bad x 0))
+    f_not B = record {
       walk = λ ts e s1 s2 m deep.
           let z = first_field nz ts (s2 nz) m deep in
-          refuse (ap (λ (x : Tys). fields_at depth x (drop i bytes)) z.is ∙ B.not h z.t z.more) (omega arith);
+          refuse (ap (λ (x : Tys). fields_at depth x (drop i bytes)) z.is ∙ B.not refl z.t z.more) (omega arith);
     }
 
     -- the first field's walk: the place behind its type is asked for where a field follows, or where the place behind the last one is
-    module _ (y : o ≡ Ok tt) {one : Bool} (asks : (1 < n → one ≡ true) × (asked ≡ true → one ≡ true)) where
+    module _ (B : Begins depth (drop i bytes) (Ok tt)) {one : Bool} (asks : (1 < n → one ≡ true) × (asked ≡ true → one ≡ true)) where
       first_is : {r : Result Walked Refused} → ValueWalk ty at bytes i depth one r → {ts : Tys} {e : ℕ} (z : FirstField ty at n ts e) (D : Decoded Val) → decode z.t depth (drop i bytes) ≡ D
           → fields_at depth ts (drop i bytes) ≡ both D (fields_at depth z.more) Vals.AddVal
       first_is v z D q =
-          ap (λ (x : Tys). fields_at depth x (drop i bytes)) z.is ∙ B.yes y z.t z.more ∙ ap (λ (E : Decoded Val). both E (fields_at depth z.more) Vals.AddVal) q
+          ap (λ (x : Tys). fields_at depth x (drop i bytes)) z.is ∙ B.yes refl z.t z.more ∙ ap (λ (E : Decoded Val). both E (fields_at depth z.more) Vals.AddVal) q
 
       pub f_bad : {f : Refused} → ValueWalk ty at bytes i depth one (Err f) → FieldWalk ty at n bytes i depth asked (Err f)
       f_bad v = record {
@@ -187,16 +187,16 @@ pub record Turned (ty : List ℕ) (at n : ℕ) (bytes : List ℕ) (i depth : ℕ
   pub so_far : (r : Result Walked Refused) → FieldWalk ty s.at left bytes s.next depth asked r → FieldWalk ty at n bytes i depth asked (plus s.words s.pool s.begun r)
 
 module _ {ty : List ℕ} {at n : ℕ} {bytes : List ℕ} {i depth : ℕ} {asked : Bool} where
-  pub t_start : FieldsAt ty at n → i ≤ length bytes → Turned ty at n bytes i depth asked n (good at i 0 0 0)
-  t_start g h =
-      record {
+  pub t_start : {left : ℕ} → left ≡ n → FieldsAt ty at n → i ≤ length bytes → Turned ty at n bytes i depth asked left (good at i 0 0 0)
+  t_start e g h = rw e
+      (record {
         fields = λ z. g;
         place = h;
         short = omega arith;
         few = λ z. omega arith;
         small = λ z. omega arith;
         so_far = λ r f. subst (FieldWalk ty at n bytes i depth asked) (plus_zero r) f;
-      }
+      })
 
   module _ {left : ℕ} {s : Walked} (T : Turned ty at n bytes i depth asked left s) where
     -- no field is left
@@ -216,24 +216,22 @@ module _ {ty : List ℕ} {at n : ℕ} {bytes : List ℕ} {i depth : ℕ} {asked 
       pub t_type : TypeAt ty s.at
       t_type = let z = next_field in record { t = z.t; end = z.end; here = z.here; deep = z.deep }
 
-      pub t_not : {o : Result Unit Refusal} → Begins depth (drop s.next bytes) o → {x : Refusal} → o ≡ Err x → FieldWalk ty at n bytes i depth asked (Err (bad x s.begun))
-      t_not B {x} h = subst (λ (k : ℕ). FieldWalk ty at n bytes i depth asked (Err (bad x k))) (add-zero s.begun) (T.so_far _ (f_not nz B h))
+      pub t_not : {x : Refusal} → Begins depth (drop s.next bytes) (Err x) → FieldWalk ty at n bytes i depth asked (Err (bad x s.begun))
+      t_not {x} B = subst (λ (k : ℕ). FieldWalk ty at n bytes i depth asked (Err (bad x k))) (add-zero s.begun) (T.so_far _ (f_not nz B))
 
 -- a turn: a field begins here, and its walk answered r
 pub record Turn (ty : List ℕ) (at n : ℕ) (bytes : List ℕ) (i depth : ℕ) (asked : Bool) (left : ℕ) (s : Walked) (r : Result Walked Refused) : Type 0 where
-  pub o : Result Unit Refusal
   pub one : Bool
   pub turned : Turned ty at n bytes i depth asked left s
   pub some : 0 < left
-  pub begins : Begins depth (drop s.next bytes) o
-  pub yes : o ≡ Ok tt
+  pub begins : Begins depth (drop s.next bytes) (Ok tt)
   pub asks : (1 < left → one ≡ true) × (asked ≡ true → one ≡ true)
   pub value : ValueWalk ty s.at bytes s.next depth one r
 
 module _ {ty : List ℕ} {at n : ℕ} {bytes : List ℕ} {i depth : ℕ} {asked : Bool} {left : ℕ} {s : Walked} where
   module _ {f : Refused} (U : Turn ty at n bytes i depth asked left s (Err f)) where
     pub t_bad : FieldWalk ty at n bytes i depth asked (Err (bad f.why (s.begun + f.begun)))
-    t_bad = U.turned.so_far _ (f_bad U.some U.begins U.yes U.asks U.value)
+    t_bad = U.turned.so_far _ (f_bad U.some U.begins U.asks U.value)
 
     pub t_few : s.begun + f.begun ≤ length ty
     t_few =
@@ -254,15 +252,16 @@ module _ {ty : List ℕ} {at n : ℕ} {bytes : List ℕ} {i depth : ℕ} {asked 
         let h = said.so in
         (omega (arith, U.turned.small U.some, h.small, z.here.span.long, z.here.span.within), omega (arith, U.turned.short, h.short, h.place), omega (arith, U.turned.few U.some, h.few, z.here.span.long, z.here.span.within))
 
-    pub t_next : Turned ty at n bytes i depth asked (left - 1) (good x.at x.next (s.words + x.words) (s.pool + x.pool) (s.begun + x.begun))
-    t_next =
+    pub t_next : {others : ℕ} → others ≡ left - 1 → Turned ty at n bytes i depth asked others (good x.at x.next (s.words + x.words) (s.pool + x.pool) (s.begun + x.begun))
+    t_next e =
         let z = field in
         let h = said.so in
-        record {
-          fields = λ l. f_left U.some U.begins U.yes U.asks U.value l (U.turned.fields U.some);
+        rw e
+        (record {
+          fields = λ l. f_left U.some U.begins U.asks U.value l (U.turned.fields U.some);
           place = h.place;
           short = omega (arith, U.turned.short, h.short);
           few = λ l. omega (arith, U.turned.few U.some, h.few, z.here.span.long, h.behind (U.asks.0 (omega arith)));
           small = λ l. omega (arith, U.turned.small U.some, h.small, z.here.span.long, h.behind (U.asks.0 (omega arith)));
-          so_far = λ q f. subst (FieldWalk ty at n bytes i depth asked) (plus_plus s.words s.pool s.begun x.words x.pool x.begun q) (U.turned.so_far _ (f_then U.some U.begins U.yes U.asks U.value f));
-        }
+          so_far = λ q f. subst (FieldWalk ty at n bytes i depth asked) (plus_plus s.words s.pool s.begun x.words x.pool x.begun q) (U.turned.so_far _ (f_then U.some U.begins U.asks U.value f));
+        })

@@ -107,28 +107,28 @@ module _ {rest : List ℕ} {i end : ℕ} where
   module _ {r : Result Run Refusal} (h : answered r ≡ marked_by rest (marked 0x53 get_run rest)) where
     pub bytes_bad : {e : Refusal} → r ≡ Err e → LeafWalk Ty.Bytes rest i end (Err (bad e 1))
     unfolding decode get_bytes
-    bytes_bad e = leaf_bad (λ depth. ap (scalar Val.Bytes) (found_none 0x53 rest (rw e at h)))
+    bytes_bad e = leaf_bad (λ depth. ap (scalar Val.Bytes) (found_none 0x53 rest _ _ (rw e at h)))
 
     pub bytes_good : {x : Run} → r ≡ Ok x → LeafWalk Ty.Bytes rest i end (Ok (good end (i + x.end + 1) 2 x.len 1))
     unfolding decode get_bytes val_pool val_words
     bytes_good {x} e =
-        let f = found_run 0x53 rest (rw e at h) in
+        let f = found_run 0x53 rest _ (rw e at h) in
         leaf_good (Val.Bytes (payload_to x.end rest)) {used = x.end + 1} (λ depth. ap (scalar Val.Bytes) f.reads) refl f.run.long (omega (arith, f.run.escapes)) (omega (arith, f.run.within)) (omega arith)
 
   module _ {r : Result Run Refusal} (h : answered r ≡ marked_by rest (marked 0x21 get_run rest)) where
     pub str_bad : {e : Refusal} → r ≡ Err e → LeafWalk Ty.Str rest i end (Err (bad e 1))
     unfolding decode
-    str_bad e = leaf_bad (λ depth. ap (scalar Val.Str) (str_none rest (found_none 0x21 rest (rw e at h))))
+    str_bad e = leaf_bad (λ depth. ap (scalar Val.Str) (str_none rest (found_none 0x21 rest _ _ (rw e at h))))
 
     module _ {x : Run} (e : r ≡ Ok x) {q : Bool} (u : q ≡ utf8 (payload_to x.end rest)) where
       pub str_not : q ≡ false → LeafWalk Ty.Str rest i end (Err (bad made.BadString 1))
       unfolding decode
-      str_not k = leaf_bad (λ depth. ap (scalar Val.Str) (str_read rest _ _ false (found_run 0x21 rest (rw e at h)).reads (sym k ∙ u)))
+      str_not k = leaf_bad (λ depth. ap (scalar Val.Str) (str_read rest _ _ false (found_run 0x21 rest _ (rw e at h)).reads (sym k ∙ u)))
 
       pub str_good : q ≡ true → LeafWalk Ty.Str rest i end (Ok (good end (i + x.end + 1) 2 x.len 1))
       unfolding decode val_pool val_words
       str_good k =
-          let f = found_run 0x21 rest (rw e at h) in
+          let f = found_run 0x21 rest _ (rw e at h) in
           leaf_good (Val.Str (payload_to x.end rest)) {used = x.end + 1} (λ depth. ap (scalar Val.Str) (str_read rest _ _ true f.reads (sym k ∙ u))) refl f.run.long (omega (arith, f.run.escapes)) (omega (arith, f.run.within)) (omega arith)
 
 -- what was read lies within the bytes
@@ -139,7 +139,7 @@ pub ref_within : (rest : List ℕ) {r : Result (Taken ℕ) Refusal} {x : Taken �
 ref_within rest h e = (id_took rest (rw e at h)).within
 
 pub run_within : (mark : ℕ) (rest : List ℕ) {r : Result Run Refusal} {x : Run} → answered r ≡ marked_by rest (marked mark get_run rest) → r ≡ Ok x → RunIn rest x.end x.len
-run_within mark rest h e = (found_run mark rest (rw e at h)).run
+run_within mark rest h e = (found_run mark rest _ (rw e at h)).run
 
 -- ---- whatever scalar stands at a place
 
