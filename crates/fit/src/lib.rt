@@ -6,7 +6,7 @@ ghost use Rattle.format.specs.ValueSheet.{max_value_words};
 ghost use Rattle.format.specs.Encode.{fits_ref, null_bytes};
 ghost use Rattle.format.specs.Refusals.{answered};
 ghost use Rattle.format.proofs.PlainLaws.{plain_pool};
-ghost use Rattle.fit.specs.Fit.{plain_place, leaf_in, ref_in, longer, len_of, Standing, StandingRow, Closed, FitValue, FitFields};
+ghost use Rattle.fit.specs.Fit.{plain_place, leaf_in, ref_in, len_of, Standing, StandingRow, Closed, FitValue, FitFields};
 
 use format::Refusal;
 
@@ -52,18 +52,6 @@ fn fit_ref(predicate: u32, raw: u64, t: usize, w: usize, p: usize) -> Result<Fit
         word: w + 2,
         pool: p,
         len: format::FACT_REF_FIELD_LEN,
-    })
-}
-
-// What a record makes of its fields' answer: its mark and its end are two bytes more.
-fn in_record(fields: Result<Fitted, Refusal>) -> Result<Fitted, Refusal>
-    requires { len_of fields < 2 ^ 32 }
-    ensures { result ≡ longer 2 fields }
-{
-    let row = fields?;
-    Ok(Fitted {
-        len: row.len + 2,
-        ..row
     })
 }
 
@@ -174,7 +162,11 @@ pub fn fit_value(
         if format::MAX_RECORD_DEPTH <= depth {
             return Err(Refusal::BadRecord);
         }
-        return in_record(fit_fields(ty, words, pool, at + 2, w + 2, p, n, depth + 1, asked));
+        let row = fit_fields(ty, words, pool, at + 2, w + 2, p, n, depth + 1, asked)?;
+        return Ok(Fitted {
+            len: row.len + 2, // its mark and its end
+            ..row
+        });
     }
     let choice = sheet::alternative(ty, at, x);
     let place = choice.place.ok_or(Refusal::UnknownDiscriminant(x))?;
@@ -208,8 +200,8 @@ pub fn fit_fields(
         len: 0,
     };
     for passed in 0..n {
-        let last = sheet::asks(n - passed, asked);
-        let field = fit_value(ty, words, pool, row.at, row.word, row.pool, depth, last)?;
+        let end_asked = sheet::asks(n - passed, asked);
+        let field = fit_value(ty, words, pool, row.at, row.word, row.pool, depth, end_asked)?;
         row = Fitted {
             len: row.len + field.len,
             ..field
