@@ -1,11 +1,10 @@
 -- From what the steps found to what the bounds call and replacement answer and leave.
 use mathlib.Core.Path.{◌≡◌, refl, sym, ap, ◌∙◌}
-use mathlib.Core.Bool.{Bool, true, false, not}
+use mathlib.Core.Bool.{Bool, true, false}
 use mathlib.Core.Option.{Option, some, none}
 use mathlib.Core.List.{List}
 use Prim.Native.Nat.{ℕ, ◌≤◌, ◌<◌, ◌^◌}
 use native.Mathlib.Omega.{arith}
-use borrow.Author.Tests.{not-false}
 use lib.Dec.{leb}
 use lib.ListN.{length, take, get_or}
 use Rattle.std.specs.Prelude.{Result, Ok, Err}
@@ -56,9 +55,9 @@ no_type_lem ty h = go (type_of ty) h
     go (some t) e = absurd (let z : ◌≡◌ {A = ℕ} 0 1 = cc in omega arith)
 
 -- an admitted sheet, by the test's answer
-module _ (ty : List ℕ) {b : Bool} (said : b ≡ is_some (type_of ty)) (yes : not b ≡ false) where
+module _ (ty : List ℕ) {b : Bool} (said : b ≡ is_some (type_of ty)) (yes : b ≡ true) where
   adm : is_some (type_of ty) ≡ true
-  adm = sym said ∙ not-false b yes
+  adm = sym said ∙ yes
 
   pub some_words : 0 < length ty
   some_words = let t = types.its_tree ty adm in (kind_is ty 0 (length ty) t.0 (top ty t.0 t.1)).0

@@ -1,11 +1,11 @@
 -- A record sheet by its first two words, whether a type has a field behind as many, and what judging the sheet's values says.
 use mathlib.Core.Path.{◌≡◌, refl, sym, ap, ◌∙◌}
-use mathlib.Core.Bool.{Bool, true, false, not}
+use mathlib.Core.Bool.{Bool, true, false}
 use mathlib.Core.Option.{Option, some, none}
 use mathlib.Core.List.{List, ◌++◌}
 use Prim.Native.Nat.{ℕ, ◌+◌, ◌≤◌, ◌<◌, ◌^◌}
 use native.Mathlib.Omega.{arith}
-use borrow.Author.Tests.{not-true, not-false, eqb-true, ltb-true}
+use borrow.Author.Tests.{eqb-true, ltb-true}
 use lib.Dec.{eqb, ltb}
 use lib.ListN.{length, get_or, drop}
 use Rattle.std.specs.Prelude.{Result, Ok, Err}
@@ -57,7 +57,7 @@ its_fields none e = absurd (let z : ◌≡◌ {A = ℕ} 0 1 = cc in omega arith)
 its_fields (some v) e = (fields_in v, ap some (is_record_lem v (eqb-true (val_kind v) 5 e)))
 
 module _ (words pool : List ℕ) {b : Bool} (said : b ≡ is_some (value_of words pool)) where
-  module _ (yes : not b ≡ false) where
+  module _ (yes : b ≡ true) where
     here : (0 < length words) × (get_or words 0 0 ≡ val_kind (its_value words pool said yes))
     here = value_places.kind_is words pool 0 0 (length words) (length pool) (its_value words pool said yes) (it_stands words pool said yes)
 
@@ -84,13 +84,13 @@ module _ (words pool : List ℕ) {vs : Vals} (is : value_of words pool ≡ some 
 -- ---- the field behind
 
 -- the sheets passed their tests: a type, and a record
-module _ (ty words pool : List ℕ) {b : Bool} (said : b ≡ is_some (type_of ty)) (yes : not b ≡ false) where
+module _ (ty words pool : List ℕ) {b : Bool} (said : b ≡ is_some (type_of ty)) (yes : b ≡ true) where
   pub its_type : (t : Ty) × (type_of ty ≡ some t)
-  its_type = types.some_of (type_of ty) (sym said ∙ not-false b yes)
+  its_type = types.some_of (type_of ty) (sym said ∙ yes)
 
-  module _ {q : Bool} (first : q ≡ is_record (value_of words pool)) (record_yes : not q ≡ false) where
+  module _ {q : Bool} (first : q ≡ is_record (value_of words pool)) (record_yes : q ≡ true) where
     pub its_first : (vs : Vals) × (value_of words pool ≡ some (Val.Record vs))
-    its_first = its_fields (value_of words pool) (sym first ∙ not-false q record_yes)
+    its_first = its_fields (value_of words pool) (sym first ∙ record_yes)
 
     pub first_words : FirstWords ty words
     first_words = record { kind_word = some_words ty said yes; type_count = λ k. count_word ty said yes k; value_count = (count_in words pool its_first.1).0 }
@@ -100,8 +100,8 @@ module _ (ty words pool : List ℕ) {b : Bool} (said : b ≡ is_some (type_of ty
       count = (count_in words pool its_first.1).1
 
       -- no field behind them
-      pub no_field : {A : Type 0} (f : Tys → Ty → Answer A) → not n ≡ true → with_next its_type.0 (val_count its_first.0) f ≡ refused NoField 0
-      no_field f h = go (eqb (get_or ty 0 0) 5) (eqb_test (get_or ty 0 0) 5) (sym next ∙ not-true n h)
+      pub no_field : {A : Type 0} (f : Tys → Ty → Answer A) → n ≡ false → with_next its_type.0 (val_count its_first.0) f ≡ refused NoField 0
+      no_field f h = go (eqb (get_or ty 0 0) 5) (eqb_test (get_or ty 0 0) 5) (sym next ∙ h)
         where
           go : (e : Bool) → Test (get_or ty 0 0 ≡ 5) (get_or ty 0 0 ≡ 5 → ⊥) e → if e (ltb (get_or words 1 0) (get_or ty 1 0)) false ≡ false
               → with_next its_type.0 (val_count its_first.0) f ≡ refused NoField 0
@@ -115,8 +115,8 @@ module _ (ty words pool : List ℕ) {b : Bool} (said : b ≡ is_some (type_of ty
               let is : its_type.0 ≡ t.0 = cc (sym its_type.1 ∙ t.1) in
               rw is ((no_record t.0 t.2).fields _)
 
-      pub the_firsts : not n ≡ false → Firsts ty words pool
-      the_firsts h = go (eqb (get_or ty 0 0) 5) (eqb_test (get_or ty 0 0) 5) (sym next ∙ not-false n h)
+      pub the_firsts : n ≡ true → Firsts ty words pool
+      the_firsts h = go (eqb (get_or ty 0 0) 5) (eqb_test (get_or ty 0 0) 5) (sym next ∙ h)
         where
           go : (e : Bool) → Test (get_or ty 0 0 ≡ 5) (get_or ty 0 0 ≡ 5 → ⊥) e → if e (ltb (get_or words 1 0) (get_or ty 1 0)) false ≡ true → Firsts ty words pool
           go _ (fails k) z = absurd (let y : ◌≡◌ {A = ℕ} 0 1 = cc in omega arith)

@@ -1,11 +1,10 @@
 -- From what the steps of the span call found to what it answers and leaves.
 use mathlib.Core.Path.{◌≡◌, refl, sym, ap, ap₂, ◌∙◌}
-use mathlib.Core.Bool.{Bool, true, false, not}
+use mathlib.Core.Bool.{Bool, true, false}
 use mathlib.Core.Option.{some}
 use mathlib.Core.List.{List, [], ◌∷◌, ◌++◌}
 use Prim.Native.Nat.{ℕ, ◌+◌, ◌-◌, ◌≤◌, ◌<◌, ◌^◌}
 use native.Mathlib.Omega.{arith}
-use borrow.Author.Tests.{not-true}
 use lib.ListN.{length, get_or, set, length-append}
 use Rattle.std.specs.Prelude.{Result, Ok, Err}
 use Rattle.format.specs.Answer.{Answer, ok, refused, BadType, BadValue, NoField}
@@ -50,36 +49,36 @@ module _ (ty words pool low_words low_pool high_words high_pool : List ℕ) wher
   No n = span_for ty words pool low_words low_pool high_words high_pool ≡ refused n 0
 
   module _ {b : Bool} (said : b ≡ is_some (type_of ty)) where
-    pub c_type : not b ≡ true → No BadType
+    pub c_type : b ≡ false → No BadType
     unfolding span_for
-    c_type h = rw (no_type_lem ty (sym said ∙ not-true b h))
+    c_type h = rw (no_type_lem ty (sym said ∙ h))
 
-    module _ (yes : not b ≡ false) {q : Bool} (first : q ≡ is_record (value_of words pool)) where
-      pub c_first : not q ≡ true → No BadValue
+    module _ (yes : b ≡ true) {q : Bool} (first : q ≡ is_record (value_of words pool)) where
+      pub c_first : q ≡ false → No BadValue
       unfolding span_for
-      c_first h = rw (its_type ty words pool said yes).1 (not_record (value_of words pool) _ (sym first ∙ not-true q h))
+      c_first h = rw (its_type ty words pool said yes).1 (not_record (value_of words pool) _ (sym first ∙ h))
 
-      module _ (record_yes : not q ≡ false) {l : Bool} (low : l ≡ is_some (value_of low_words low_pool)) where
+      module _ (record_yes : q ≡ true) {l : Bool} (low : l ≡ is_some (value_of low_words low_pool)) where
         abbrev vs : (vs : Vals) × (value_of words pool ≡ some (Val.Record vs))
         vs = its_first ty words pool said yes first record_yes
 
-        pub c_low : not l ≡ true → No BadValue
+        pub c_low : l ≡ false → No BadValue
         unfolding span_for
-        c_low h = rw ((its_type ty words pool said yes).1, vs.1, no_value low_words low_pool (sym low ∙ not-true l h))
+        c_low h = rw ((its_type ty words pool said yes).1, vs.1, no_value low_words low_pool (sym low ∙ h))
 
-        module _ (low_yes : not l ≡ false) {u : Bool} (high : u ≡ is_some (value_of high_words high_pool)) where
-          pub c_high : not u ≡ true → No BadValue
+        module _ (low_yes : l ≡ true) {u : Bool} (high : u ≡ is_some (value_of high_words high_pool)) where
+          pub c_high : u ≡ false → No BadValue
           unfolding span_for
-          c_high h = rw ((its_type ty words pool said yes).1, vs.1, it_is low_words low_pool low low_yes, no_value high_words high_pool (sym high ∙ not-true u h))
+          c_high h = rw ((its_type ty words pool said yes).1, vs.1, it_is low_words low_pool low low_yes, no_value high_words high_pool (sym high ∙ h))
 
-          module _ (high_yes : not u ≡ false) {n : Bool} (after : n ≡ has_next ty words) where
-            pub c_next : not n ≡ true → No NoField
+          module _ (high_yes : u ≡ true) {n : Bool} (after : n ≡ has_next ty words) where
+            pub c_next : n ≡ false → No NoField
             unfolding span_for
             c_next h =
                 rw ((its_type ty words pool said yes).1, vs.1, it_is low_words low_pool low low_yes, it_is high_words high_pool high high_yes)
                 (no_field ty words pool said yes first record_yes after (span_of vs.0 (its_value low_words low_pool low low_yes) (its_value high_words high_pool high high_yes)) h)
 
-            pub c_none : not n ≡ false → Asked ty words pool low_words low_pool high_words high_pool
+            pub c_none : n ≡ true → Asked ty words pool low_words low_pool high_words high_pool
             c_none h =
                 let i = the_firsts ty words pool said yes first record_yes after h in
                 record {

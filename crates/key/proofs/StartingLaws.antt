@@ -1,12 +1,11 @@
 -- From what the steps of the prefix call found to what it answers and leaves: the next field's mark, the lengths of the ends, their bytes.
 use mathlib.Core.Path.{◌≡◌, refl, sym, ap, ap₂, ◌∙◌}
 use mathlib.Core.Logic.{◌≢◌}
-use mathlib.Core.Bool.{Bool, true, false, not}
+use mathlib.Core.Bool.{Bool, true, false}
 use mathlib.Core.Option.{some}
 use mathlib.Core.List.{List, [], ◌∷◌, ◌++◌, append_assoc}
 use Prim.Native.Nat.{ℕ, ◌+◌, ◌-◌, ◌≤◌, ◌<◌, ◌^◌}
 use native.Mathlib.Omega.{arith}
-use borrow.Author.Tests.{not-true}
 use lib.Dec.{eqb, ltb}
 use lib.ListN.{length, get_or, set, take, drop, length-append}
 use lib.Seq.{take-append_seam}
@@ -106,20 +105,20 @@ unfolding prefix_for
 start_is i s = rw (i.typed, i.first_is, ltb_yes (val_count i.vs) (field_count i.ts) i.inside)
 
 module _ (ty words pool : List ℕ) {b : Bool} (said : b ≡ is_some (type_of ty)) where
-  pub n_type : not b ≡ true → NextSays ty words pool (Err made.BadType)
+  pub n_type : b ≡ false → NextSays ty words pool (Err made.BadType)
   unfolding prefix_for
-  n_type h = λ s. rw (no_type_lem ty (sym said ∙ not-true b h))
+  n_type h = λ s. rw (no_type_lem ty (sym said ∙ h))
 
-  module _ (yes : not b ≡ false) {q : Bool} (first : q ≡ is_record (value_of words pool)) where
-    pub n_first : not q ≡ true → NextSays ty words pool (Err made.BadValue)
+  module _ (yes : b ≡ true) {q : Bool} (first : q ≡ is_record (value_of words pool)) where
+    pub n_first : q ≡ false → NextSays ty words pool (Err made.BadValue)
     unfolding prefix_for
-    n_first h = λ s. rw (its_type ty words pool said yes).1 (not_record (value_of words pool) _ (sym first ∙ not-true q h))
+    n_first h = λ s. rw (its_type ty words pool said yes).1 (not_record (value_of words pool) _ (sym first ∙ h))
 
-    module _ (record_yes : not q ≡ false) {n : Bool} (next : n ≡ has_next ty words) where
+    module _ (record_yes : q ≡ true) {n : Bool} (next : n ≡ has_next ty words) where
       abbrev vs : (vs : Vals) × (value_of words pool ≡ some (Val.Record vs))
       vs = its_first ty words pool said yes first record_yes
 
-      pub n_none : not n ≡ true → NextSays ty words pool (Err made.NoField)
+      pub n_none : n ≡ false → NextSays ty words pool (Err made.NoField)
       unfolding prefix_for
       n_none h = λ s. rw ((its_type ty words pool said yes).1, vs.1) (no_field ty words pool said yes first record_yes next (prefix_of vs.0 s) h)
 

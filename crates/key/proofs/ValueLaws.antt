@@ -1,11 +1,10 @@
 -- What replacement answers once its field was found: the sheet, the value's fit, the limit, the room, the splice.
 use mathlib.Core.Path.{◌≡◌, refl, sym, ap, ◌∙◌, subst}
-use mathlib.Core.Bool.{Bool, true, false, not}
+use mathlib.Core.Bool.{Bool, true, false}
 use mathlib.Core.Option.{Option, some, none}
 use mathlib.Core.List.{List, ◌++◌}
 use Prim.Native.Nat.{ℕ, ◌+◌, ◌-◌, ◌*◌, ◌≤◌, ◌<◌, ◌^◌}
 use native.Mathlib.Omega.{arith}
-use borrow.Author.Tests.{not-true, not-false}
 use lib.ListN.{length, take, drop}
 use Rattle.std.specs.Prelude.{Result, Ok, Err}
 use Rattle.format.specs.Tree.{Ty, Val}
@@ -34,9 +33,9 @@ no_value words pool h = go (value_of words pool) h
     go (some t) e = absurd (let z : ◌≡◌ {A = ℕ} 0 1 = cc in omega arith)
 
 -- an admitted sheet, by the test's answer
-module _ (words pool : List ℕ) {b : Bool} (said : b ≡ is_some (value_of words pool)) (yes : not b ≡ false) where
+module _ (words pool : List ℕ) {b : Bool} (said : b ≡ is_some (value_of words pool)) (yes : b ≡ true) where
   pub its : (v : Val) × Admitted words pool v
-  its = values.its_tree words pool (sym said ∙ not-false b yes)
+  its = values.its_tree words pool (sym said ∙ yes)
 
   abbrev pub its_value : Val
   its_value = its.0
@@ -67,10 +66,10 @@ module _ (words pool : List ℕ) {b : Bool} (said : b ≡ is_some (value_of word
       omega (arith, q.1, q.3, q.4, its.1.long, its.1.large)
 
 module _ (ty : List ℕ) (at : ℕ) (buffer : List ℕ) (used start end : ℕ) (words pool : List ℕ) {b : Bool} (said : b ≡ is_some (value_of words pool)) where
-  pub v_bad : not b ≡ true → ValueStands ty at buffer used start end words pool (Err made.BadValue) buffer
-  v_bad h = record { stands = λ t e i d. rw (no_value words pool (sym said ∙ not-true b h)) (record { answer = refl; left = refl }) }
+  pub v_bad : b ≡ false → ValueStands ty at buffer used start end words pool (Err made.BadValue) buffer
+  v_bad h = record { stands = λ t e i d. rw (no_value words pool (sym said ∙ h)) (record { answer = refl; left = refl }) }
 
-  module _ (yes : not b ≡ false) where
+  module _ (yes : b ≡ true) where
     abbrev the_value : Val
     the_value = its_value words pool said yes
 

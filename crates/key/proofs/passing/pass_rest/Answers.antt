@@ -1,0 +1,12 @@
+-- The walk over bare fields; a byte that is left behind them refuses the key, as the definition's `whole` says.
+use Rattle.key.proofs.PassLaws as laws
+use Rattle.key.proofs.passing.pass_rest.Goals as goal
+
+pub returns-in-Err : goal.returns-in-Err
+returns-in-Err c = laws.end_bad c.in-Err.ensures
+
+pub returns-then-walked-bytes : goal.returns-then-walked-bytes
+returns-then-walked-bytes c = search laws.end_left
+
+pub returns-else-walked-bytes : goal.returns-else-walked-bytes
+returns-else-walked-bytes c = search laws.end_whole
