@@ -1,29 +1,21 @@
 -- What comparing two values answers, and what the walk over their sheets promises.
-use Rattle.std.specs.Prelude.{◌≡◌, ℕ, zero, suc, ◌+◌, ◌≤◌, List, length, ◌≢◌, slice_index}
-use Prim.Native.Nat.{Ordering}
-use Rattle.format.specs.Answer.{Answer, ok, refused}
+use Rattle.std.specs.Prelude.{◌≡◌, ℕ, zero, suc, ◌+◌, ◌≤◌, List, length, ◌≢◌, slice_index, Result}
+use Rattle.std.specs.declared.cmp.Ordering.{Ordering}
+use Rattle.std.specs.declared.cmp.Ordering.TheVariants.{Equal}
+use Prim.Native.Nat as maths
+use Rattle.format.specs.Answer.{Answer}
+use Rattle.format.specs.Refusals.{answered_by}
+use Rattle.format.specs.declared.refusal.Refusal.{Refusal}
+use Rattle.blocks.specs.Compare.{order_of}
 use Rattle.format.specs.Tree.{Val, Vals}
 use Rattle.format.specs.Sheet.{val_count}
 use Rattle.format.specs.Order.{cmp_val, cmp_vals}
 use Rattle.format.proofs.ValuePlaces.{ValueIn, ValuesIn}
 use Rattle.order.specs.declared.Walk.{Walk}
-use Rattle.order.specs.declared.Compared.{Compared}
-use Rattle.order.specs.declared.Compared.TheVariants.{Less, Equal, Greater, Refused}
 
 -- the call's answer
-abbrev pub compared_of : Compared → Answer Ordering
-compared_of Less = ok Ordering.lt
-compared_of Equal = ok Ordering.eq
-compared_of Greater = ok Ordering.gt
-compared_of (Refused n d) = refused n d
-
--- ---- numbers of the walk
-
--- an ordering's number
-abbrev pub code : Ordering → ℕ
-code Ordering.lt = 1
-code Ordering.eq = 0
-code Ordering.gt = 2
+abbrev pub compared_of : Result Ordering Refusal → Answer maths.Ordering
+compared_of r = answered_by order_of r
 
 -- the rank of a value by its kind's number; no value has a kind over 6
 unfoldable pub rank_of : ℕ → ℕ
@@ -37,9 +29,6 @@ rank_of (suc (suc (suc (suc (suc (suc zero)))))) = 0x52
 rank_of (suc (suc (suc (suc (suc (suc (suc k))))))) = 0x00
 
 -- ---- places
-
-abbrev pub standing : (order i p j q : ℕ) → Walk
-standing order i p j q = record { order = order; i = i; p = p; j = j; q = q }
 
 -- the places lie within both sheets
 pub record Within (wa pa wb pb : List ℕ) (s : Walk) : Type 0 where
@@ -58,9 +47,9 @@ pub record Behind (e f g h : ℕ) (r : Walk) : Type 0 where
 -- ---- answers
 
 -- the order; where it is equal, r stands behind both
-pub record Says (o : Ordering) (e f g h : ℕ) (r : Walk) : Type 0 where
-  pub order : r.order ≡ code o
-  pub ends : r.order ≡ 0 → Behind e f g h r
+pub record Says (o : maths.Ordering) (e f g h : ℕ) (r : Walk) : Type 0 where
+  pub order : order_of r.order ≡ o
+  pub ends : r.order ≡ Equal → Behind e f g h r
 
 -- whatever two values stand at the places, r says how they compare
 pub record One (wa pa wb pb : List ℕ) (i p j q : ℕ) (r : Walk) : Type 0 where

@@ -2,10 +2,12 @@
 #![tactic(auto)]
 
 ghost use Rattle.std.specs.Prelude.{◌≡◌, ◌+◌, ◌≤◌, length};
-ghost use Prim.Native.Nat.{compare};
-ghost use Rattle.format.specs.Order.{cmp_bytes, offset};
+ghost use Rattle.format.specs.Order.{offset};
 ghost use Rattle.format.specs.Calls.{compare_call};
-ghost use Rattle.order.specs.Compare.{compared_of, code, rank_of, standing, Within, CompareScalar, CompareValue, CompareFields};
+ghost use Rattle.order.specs.Compare.{compared_of, rank_of, Within, CompareScalar, CompareValue, CompareFields};
+
+use format::Refusal;
+use std::cmp::Ordering;
 
 // The rank of a kind, as the definition of the order has it: the least mark of the kind.
 const RANK_NULL: u64 = 0x00;
@@ -24,29 +26,14 @@ const RANK_BYTES: u64 = 0x53;
 
 const TOP_BIT: u64 = 0x8000_0000_0000_0000;
 
-// How two values compare, or a refusal with its detail.
-#[derive(Clone, Copy)]
-pub enum Compared {
-    Less,
-    Equal,
-    Greater,
-    Refused(u32, u64),
-}
-
-// Where a walk stands in the words and the pool of both sheets, and how what it passed compares: 0 equal, 1 less, 2 greater. Only an equal walk goes on.
+// Where a walk stands in the words and the pool of both sheets, and how what it passed compares. Only an equal walk goes on.
 #[derive(Clone, Copy)]
 pub struct Walk {
-    pub order: u32,
+    pub order: Ordering,
     pub i: usize,
     pub p: usize,
     pub j: usize,
     pub q: usize,
-}
-
-fn stand(order: u32, i: usize, p: usize, j: usize, q: usize) -> Walk
-    ensures { result ≡ standing order i p j q }
-{
-    Walk { order, i, p, j, q }
 }
 
 // The rank of a kind's number.
@@ -54,26 +41,14 @@ fn rank_of(kind: u64) -> u64
     ensures { result ≡ rank_of kind }
 {
     match kind {
-        1 => RANK_INT,
-        2 => RANK_STR,
-        3 => RANK_BYTES,
-        4 => RANK_FACT,
-        5 => RANK_RECORD,
-        6 => RANK_UNION,
+        format::VALUE_INT => RANK_INT,
+        format::VALUE_STR => RANK_STR,
+        format::VALUE_BYTES => RANK_BYTES,
+        format::VALUE_FACT => RANK_FACT,
+        format::VALUE_RECORD => RANK_RECORD,
+        format::VALUE_UNION => RANK_UNION,
         _ => RANK_NULL,
     }
-}
-
-fn number_order(x: u64, y: u64) -> u32
-    ensures { result ≡ code (compare x y) }
-{
-    if x < y {
-        return 1;
-    }
-    if y < x {
-        return 2;
-    }
-    0
 }
 
 // Words of integers in their order as unsigned numbers: the top bit flipped.
@@ -83,43 +58,33 @@ fn flipped(x: u64) -> u64
     std::num::wrapping_add_u64(x, TOP_BIT)
 }
 
-fn run_order(a: &[u8], b: &[u8]) -> u32
-    ensures { result ≡ code (cmp_bytes a.now b.now) }
-{
-    match blocks::compare(a, b) {
-        blocks::Order::Less => 1,
-        blocks::Order::Equal => 0,
-        blocks::Order::Greater => 2,
-    }
-}
-
 // Two values that are no groups, of one rank and with the second words x and y.
 fn compare_scalar(pa: &[u8], pb: &[u8], s: Walk, rank: u64, x: u64, y: u64) -> Walk
     requires { (s.p ≤ length pa.now) × (s.q ≤ length pb.now) × (s.i + 2 ≤ 0xffffffffffffffff) × (s.j + 2 ≤ 0xffffffffffffffff) }
     ensures { CompareScalar pa.now pb.now s rank x y result }
 {
-    let p = s.p;
-    let q = s.q;
+    let i = s.i + 2;
+    let j = s.j + 2;
     if rank == RANK_INT {
-        let order = number_order(flipped(x), flipped(y));
-        return stand(order, s.i + 2, p, s.j + 2, q);
+        let order = flipped(x).cmp(&flipped(y));
+        return Walk { order, i, j, ..s };
     }
     if rank == RANK_FACT {
-        let order = number_order(x, y);
-        return stand(order, s.i + 2, p, s.j + 2, q);
+        let order = x.cmp(&y);
+        return Walk { order, i, j, ..s };
     }
     let m = x as usize;
     let n = y as usize;
-    if pa.len() - p < m {
+    if pa.len() - s.p < m {
         return s;
     }
-    if pb.len() - q < n {
+    if pb.len() - s.q < n {
         return s;
     }
-    let e = p + m;
-    let f = q + n;
-    let order = run_order(&pa[p..e], &pb[q..f]);
-    stand(order, s.i + 2, e, s.j + 2, f)
+    let p = s.p + m;
+    let q = s.q + n;
+    let order = blocks::compare(&pa[s.p..p], &pb[s.q..q]);
+    Walk { order, i, p, j, q }
 }
 
 // The values at the places.
@@ -137,12 +102,17 @@ fn compare_value(wa: &[u64], pa: &[u8], wb: &[u64], pb: &[u8], s: Walk) -> Walk
         return s;
     }
     let rank = rank_of(wa[i]);
-    let kinds = number_order(rank, rank_of(wb[j]));
-    if kinds != 0 {
-        return stand(kinds, i, s.p, j, s.q);
+    let kinds = rank.cmp(&rank_of(wb[j]));
+    if kinds.is_ne() {
+        return Walk { order: kinds, ..s };
     }
     if rank == RANK_NULL {
-        return stand(0, i + 1, s.p, j + 1, s.q);
+        return Walk {
+            order: Ordering::Equal,
+            i: i + 1,
+            j: j + 1,
+            ..s
+        };
     }
     if wa.len() - i < 2 {
         return s;
@@ -152,17 +122,21 @@ fn compare_value(wa: &[u64], pa: &[u8], wb: &[u64], pb: &[u8], s: Walk) -> Walk
     }
     let x = wa[i + 1];
     let y = wb[j + 1];
+    let inside = Walk {
+        order: Ordering::Equal,
+        i: i + 2,
+        j: j + 2,
+        ..s
+    };
     if rank == RANK_RECORD {
-        let fields = stand(0, i + 2, s.p, j + 2, s.q);
-        return compare_fields(wa, pa, wb, pb, fields, x, y);
+        return compare_fields(wa, pa, wb, pb, inside, x, y);
     }
     if rank == RANK_UNION {
-        let tags = number_order(x, y);
-        if tags != 0 {
-            return stand(tags, i, s.p, j, s.q);
+        let tags = x.cmp(&y);
+        if tags.is_ne() {
+            return Walk { order: tags, ..s };
         }
-        let payload = stand(0, i + 2, s.p, j + 2, s.q);
-        return compare_value(wa, pa, wb, pb, payload);
+        return compare_value(wa, pa, wb, pb, inside);
     }
     compare_scalar(pa, pb, s, rank, x, y)
 }
@@ -174,45 +148,39 @@ fn compare_fields(wa: &[u64], pa: &[u8], wb: &[u64], pb: &[u8], s: Walk, x: u64,
     ensures { CompareFields wa.now pa.now wb.now pb.now s x y result }
 {
     let mut here = s;
-    let mut m = x;
-    let mut n = y;
-    loop {
-        if m == 0 {
-            if n == 0 {
-                return stand(0, here.i, here.p, here.j, here.q);
-            }
-            return stand(1, here.i, here.p, here.j, here.q);
-        }
-        if n == 0 {
-            return stand(2, here.i, here.p, here.j, here.q);
-        }
+    for _ in 0..x.min(y) {
         here = compare_value(wa, pa, wb, pb, here);
-        if here.order != 0 {
+        if here.order.is_ne() {
             return here;
         }
-        m -= 1;
-        n -= 1;
+    }
+    Walk {
+        order: x.cmp(&y),
+        ..here
     }
 }
 
 // How two values compare, for any two admitted sheets, the first judged first.
-pub fn compare(words_a: &[u64], pool_a: &[u8], words_b: &[u64], pool_b: &[u8]) -> Compared
+pub fn compare(
+    words_a: &[u64],
+    pool_a: &[u8],
+    words_b: &[u64],
+    pool_b: &[u8],
+) -> Result<Ordering, Refusal>
     ensures { compared_of result ≡ compare_call words_a.now pool_a.now words_b.now pool_b.now }
 {
     if !sheet::admit_value(words_a, pool_a) {
-        return Compared::Refused(format::BAD_VALUE, 0);
+        return Err(Refusal::BadValue);
     }
     if !sheet::admit_value(words_b, pool_b) {
-        return Compared::Refused(format::BAD_VALUE, 0);
+        return Err(Refusal::BadValue);
     }
-    let top = stand(0, 0, 0, 0, 0);
-    let r = compare_value(words_a, pool_a, words_b, pool_b, top);
-    let order = r.order;
-    if order == 0 {
-        return Compared::Equal;
-    }
-    if order == 1 {
-        return Compared::Less;
-    }
-    Compared::Greater
+    let top = Walk {
+        order: Ordering::Equal,
+        i: 0,
+        p: 0,
+        j: 0,
+        q: 0,
+    };
+    Ok(compare_value(words_a, pool_a, words_b, pool_b, top).order)
 }
