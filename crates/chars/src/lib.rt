@@ -47,6 +47,7 @@ fn gave(code: u32, next: usize) -> Stepped
 }
 
 // How many bytes a lead says that its character has; other leads are taken as width 1.
+#[tactic(auto, unfolding(format::specs::Chars::lead_width))]
 pub fn utf8_width(lead: u8) -> usize
     ensures { result ≡ chars.lead_width lead }
 {
@@ -63,10 +64,10 @@ fn zero_step(s: &[u8], at: usize) -> Stepped
     requires { (at < length s.now) × (get_or s.now at 0 ≡ 0) }
     ensures { stepped_of result ≡ chars.step_at s.now at false }
 {
-    if s.get(at + 1) == Some(&format::MARK_ESCAPE) {
-        return gave(0, at + 2);
+    match s.get(at + 1) {
+        Some(&next) if next == format::MARK_ESCAPE => gave(0, at + 2),
+        _ => finished(Ok(None), at),
     }
-    finished(Ok(None), at)
 }
 
 // At another byte: enough bytes for the lead's width, then RFC 3629.
@@ -102,11 +103,10 @@ pub fn step_at(s: &[u8], at: usize, done: bool) -> Stepped
 pub fn open_at(bytes: &[u8]) -> Result<(), Refusal>
     ensures { Opens bytes.now result }
 {
-    let mark = *bytes.first().ok_or(Refusal::UnexpectedEof)?;
-    if mark == format::MARK_STRING {
-        Ok(())
-    } else {
-        Err(Refusal::UnexpectedMark(mark))
+    match bytes.first() {
+        None => Err(Refusal::UnexpectedEof),
+        Some(&format::MARK_STRING) => Ok(()),
+        Some(&mark) => Err(Refusal::UnexpectedMark(mark)),
     }
 }
 
