@@ -2,7 +2,7 @@
 use mathlib.Core.Path.{◌≡◌, refl, sym, ap, ◌∙◌}
 use mathlib.Core.List.{List}
 use mathlib.Core.Bool.{Bool, true}
-use Prim.Native.Nat.{ℕ, ◌+◌, ◌-◌, ◌≤◌, ◌<◌}
+use Prim.Native.Nat.{ℕ, ◌+◌, ◌≤◌, ◌<◌}
 use native.Mathlib.Omega.{arith}
 use lib.ListN.{length, length-append}
 use Rattle.std.specs.Prelude.{Ok, Err}
@@ -48,8 +48,8 @@ record Next (ty words pool : List ℕ) (depth : ℕ) (ts : Tys) (vs : Vals) (e f
   types : types.TypesIn ty m more e
   deep : nestings more ≤ max_groups
   values : values.ValuesIn words pool f₁ g₁ others f g
-  count : field_count more ≡ left - 1
-  same : val_count others ≡ left - 1
+  count : field_count more + 1 ≡ left
+  same : val_count others + 1 ≡ left
   answer : fits_all ts depth vs ≡ and_then (fits T depth v) (λ u. fits_all more depth others)
   long : length (vals_bytes depth vs) ≡ sum + length (val_bytes depth v) + length (vals_bytes depth others)
 
@@ -97,10 +97,11 @@ none_left {ty} {words} {pool} {depth} {asked} {ts} {vs} {e} {f} {g} {t} {w} {p} 
     go (Tys.AddTy T ts') vs' a b i j k l = absurd (omega arith)
 
 module _ {ty words pool : List ℕ} {at from start n : ℕ} (s : StandingRow ty words pool at from start n) where
-  pub start_left : (depth : ℕ) (asked : Bool) → Left ty words pool at from start n depth asked at from start 0 n
-  start_left depth asked =
+  pub start_left : (depth : ℕ) (asked : Bool) {left : ℕ} → n ≡ left → Left ty words pool at from start n depth asked at from start 0 left
+  start_left depth asked e =
       let i = s.here.values in
-      record {
+      rw (← e)
+      (record {
         brief = (omega arith, omega (arith, i.words.long, i.words.within), omega arith, omega (arith, i.pool.long, i.pool.within), omega arith);
         rest = λ ts vs e f g r.
             record {
@@ -115,7 +116,7 @@ module _ {ty words pool : List ℕ} {at from start n : ℕ} (s : StandingRow ty 
               answer = refl;
               long = omega arith;
             };
-      }
+      })
 
   module _ {depth : ℕ} {asked : Bool} {t w p sum left : ℕ} (i : Left ty words pool at from start n depth asked t w p sum left) where
     pub next_stands : 0 < left → Standing ty words pool t w p
@@ -142,9 +143,9 @@ module _ {ty words pool : List ℕ} {at from start n depth : ℕ} {asked : Bool}
               record { answer = sym (x.answer ∙ ap (λ (a : Answer Unit). and_then a (λ u. fits_all x.more depth x.others)) (sym q)); ends = tt };
         }
 
-    pub field_passed : (1 < left → ask ≡ true) → (asked ≡ true → ask ≡ true) → {x : Fitted} → FitValue ty words pool t w p depth ask (Ok x)
-        → Left ty words pool at from start n depth asked x.at x.word x.pool (sum + x.len) (left - 1)
-    field_passed more last right =
+    pub field_passed : (1 < left → ask ≡ true) → (asked ≡ true → ask ≡ true) → {x : Fitted} {k : ℕ} → left ≡ k + 1 → FitValue ty words pool t w p depth ask (Ok x)
+        → Left ty words pool at from start n depth asked x.at x.word x.pool (sum + x.len) k
+    field_passed more last one right =
         let b = i.brief in
         let c = right.brief in
         record {
@@ -157,8 +158,8 @@ module _ {ty words pool : List ℕ} {at from start n depth : ℕ} {asked : Bool}
                 ts' = x.more;
                 vs' = x.others;
                 deep = x.deep;
-                count = x.count;
-                same = x.same;
+                count = omega (arith, one, x.count);
+                same = omega (arith, one, x.same);
                 asked_types = λ q. rw (k.0 (last q)) x.types;
                 types = λ q. rw (k.0 (more (omega arith))) x.types;
                 values = rw (k.1, k.2) x.values;

@@ -10,7 +10,7 @@ use lib.ListN.{length, get_or, length-append}
 use lib.Seq.{slice, length-slice}
 use Rattle.std.specs.Prelude.{Option, Some, None, Ok, Err}
 use Rattle.format.specs.Answer.{Answer, ok, refused, UnknownDiscriminant, TypeMismatch}
-use Rattle.format.specs.Refusals.{answered}
+use Rattle.format.specs.Refusals.{answered, number_of, detail_of}
 use Rattle.format.specs.Tree.{Ty, Alts, Val, val_kind}
 use Rattle.format.specs.Sheet.{field_count, val_count}
 use Rattle.format.specs.TypeSheet.{max_groups, nesting}
@@ -175,7 +175,7 @@ module _ {ty words pool : List ℕ} {t w p depth : ℕ} {asked : Bool} where
         said (Ok x) (ok u) k i j l m = let is : x ≡ placed (t + 2) (w + 2) p 9 = cc in rw is (record { answer = refl; ends = (λ q. i, j, l, m) })
         said (Ok x) (refused n d) k i j l m = clash (sym k)
         said (Err n) (ok u) k i j l m = clash k
-        said (Err n) (refused m d) k i j l q = record { answer = k; ends = tt }
+        said (Err y) (refused m d) k i j l q = record { answer = let z : ◌≡◌ {A = Answer Unit} (refused (number_of y) (detail_of y)) (refused m d) = cc in z; ends = tt }
 
 -- ---- records
 

@@ -1,12 +1,12 @@
 // The encoder's measuring walk: over a type and a value, without a buffer. It finds every refusal, or where type and value end and how long the encoding is.
 #![tactic(auto)]
 
-ghost use Rattle.std.specs.Prelude.{◌≡◌, ◌+◌, ◌≤◌, ◌<◌, ◌^◌, length, get_or};
+ghost use Rattle.std.specs.Prelude.{◌≡◌, ◌+◌, ◌≤◌, ◌<◌, ◌^◌, length, get_or, Err};
 ghost use Rattle.format.specs.ValueSheet.{max_value_words};
-ghost use Rattle.format.specs.Encode.{fits_ref, null_bytes};
+ghost use Rattle.format.specs.Encode.{fits_ref, in_union, null_bytes};
 ghost use Rattle.format.specs.Refusals.{answered};
 ghost use Rattle.format.proofs.PlainLaws.{plain_pool};
-ghost use Rattle.fit.specs.Fit.{plain_place, leaf_in, ref_in, len_of, Standing, StandingRow, Closed, FitValue, FitFields};
+ghost use Rattle.fit.specs.Fit.{plain_place, answer_of, leaf_in, ref_in, len_of, Standing, StandingRow, Closed, FitValue, FitFields};
 
 use format::Refusal;
 
@@ -55,7 +55,17 @@ fn fit_ref(predicate: u32, raw: u64, t: usize, w: usize, p: usize) -> Result<Fit
     })
 }
 
-// What a union makes of its payload's answer: the end of its alternatives, where that is asked for, and its tag; or the refusal, BadRecord and TypeMismatch as BadUnion.
+// What a union says no with, for what its payload was refused with: BadRecord and TypeMismatch are BadUnion there.
+fn union_refusal(why: Refusal, tag: u64) -> Refusal
+    ensures { answer_of (Err result) ≡ in_union tag (answer_of (Err why)) }
+{
+    match why {
+        Refusal::BadRecord | Refusal::TypeMismatch(_) => Refusal::BadUnion(tag),
+        _ => why,
+    }
+}
+
+// What a union makes of its payload's answer: the end of its alternatives, where that is asked for, and its tag; or its refusal.
 fn in_union(
     ty: &[u32],
     payload: Result<Fitted, Refusal>,
@@ -72,8 +82,7 @@ fn in_union(
             len: inner.len + (2 + scalar::ints::uint_len(tag)),
             ..inner
         }),
-        Err(Refusal::BadRecord | Refusal::TypeMismatch(_)) => Err(Refusal::BadUnion(tag)),
-        Err(why) => Err(why),
+        Err(why) => Err(union_refusal(why, tag)),
     }
 }
 
@@ -201,7 +210,9 @@ pub fn fit_fields(
     };
     for passed in 0..n {
         let end_asked = sheet::asks(n - passed, asked);
-        let field = fit_value(ty, words, pool, row.at, row.word, row.pool, depth, end_asked)?;
+        let field = fit_value(
+            ty, words, pool, row.at, row.word, row.pool, depth, end_asked,
+        )?;
         row = Fitted {
             len: row.len + field.len,
             ..field

@@ -16,8 +16,7 @@ use Rattle.format.proofs.SkipLaws.{ended, walk_from, walk_step, skip_walk}
 use Rattle.scalar.specs.Numbers.{unjudged}
 use Rattle.scalar.proofs.Parts.{part_rest}
 use Rattle.scalar.proofs.Reading.{Took}
-use Rattle.skip.specs.Tokens.{token_of, field, run_mark, RunEnds, Left}
-use Rattle.skip.specs.declared.Token.{Token}
+use Rattle.skip.specs.Tokens.{field, pass_run, run_mark, Runs, Left}
 use Rattle.skip.proofs.Turns.{Ending, Opening, ends_open, opens_low, turn_took, turn_refuses, turn_closes, turn_opens}
 use Rattle.skip.proofs.Plain.{number_took, run_took, run_refused}
 
@@ -152,28 +151,27 @@ module _ {escape : Bool} {b : List ℕ} {start i d : ℕ} (w : Walk escape b sta
   -- ---- a run
 
   module _ {q : Bool} (p : q ≡ run_mark (get_or (Rest b i) 0 0)) (h : q ≡ true) where
-    module _ {r : ℕ} (e : RunEnds (Rest b i) r) where
-      starts : run_mark (get_or (drop i b) 0 0) ≡ true
-      starts = sym (rw (part_rest i b) at p) ∙ h
+    starts : run_mark (get_or (drop i b) 0 0) ≡ true
+    starts = sym (rw (part_rest i b) at p) ∙ h
 
-      pub run_bad : r ≡ 0 → refused 1 0 ≡ skip_call b start escape
-      run_bad z = walk_bad (run_refused escape d (drop i b) starts (rw (part_rest i b) at e) z)
+    pub run_bad : ((depth : ℕ) → pass_run depth (drop 1 (Rest b i)) ≡ Read.bad 1 0) → refused 1 0 ≡ skip_call b start escape
+    run_bad e = walk_bad (run_refused escape d (drop i b) starts (rw (part_rest i b) at e))
 
-      module _ (z : r ≡ 0 → ⊥) where
-        run_turn : Took (drop i b) (turn escape d (drop i b)) d r
-        run_turn = run_took escape d (drop i b) starts (rw (part_rest i b) at e) z
+    module _ {r : ℕ} (e : Runs (Rest b i) r) where
+      run_turn : Took (drop i b) (turn escape d (drop i b)) d r
+      run_turn = run_took escape d (drop i b) starts (rw (part_rest i b) at e)
 
-        pub run_room : length b < 2 ^ 64 → i + r < 2 ^ 64
-        run_room h = room run_turn h
+      pub run_room : length b < 2 ^ 64 → i + r < 2 ^ 64
+      run_room h = room run_turn h
 
-        pub run_less : (from : ℕ) → from ≤ i → length b - (i + r) < length b - from
-        run_less from h = less run_turn from h
+      pub run_less : (from : ℕ) → from ≤ i → length b - (i + r) < length b - from
+      run_less from h = less run_turn from h
 
-        pub run_on : (d ≡ 0 → ⊥) → Walk escape b start (i + r) d
-        run_on h = walk_on run_turn h
+      pub run_on : (d ≡ 0 → ⊥) → Walk escape b start (i + r) d
+      run_on h = walk_on run_turn h
 
-        pub run_end : d ≡ 0 → ok (i + r) ≡ skip_call b start escape
-        run_end h = walk_end run_turn h
+      pub run_end : d ≡ 0 → ok (i + r) ≡ skip_call b start escape
+      run_end h = walk_end run_turn h
 
   -- ---- what is left
 
@@ -181,22 +179,21 @@ module _ {escape : Bool} {b : List ℕ} {start i d : ℕ} (w : Walk escape b sta
     open_still : Ending d (drop i b) ≡ false
     open_still = sym (rw (part_rest i b) at p) ∙ h
 
-    module _ {k : Token} (a : token_of k ≡ taken_from (Rest b i) (field escape d (Rest b i))) where
-      pub left_bad : (n e : ℕ) → k ≡ Token.Bad n e → refused n e ≡ skip_call b start escape
-      left_bad n e y = walk_bad (turn_refuses escape d (drop i b) open_still (rw (part_rest i b, y) at a))
+    pub left_bad : {n e : ℕ} → refused n e ≡ taken_from (Rest b i) (field escape d (Rest b i)) → refused n e ≡ skip_call b start escape
+    left_bad a = walk_bad (turn_refuses escape d (drop i b) open_still (rw (part_rest i b) at a))
 
-      module _ {o n : ℕ} (y : k ≡ Token.Passed o n) where
-        left_turn : Took (drop i b) (turn escape d (drop i b)) o n
-        left_turn = turn_took escape d (drop i b) open_still (rw (part_rest i b, y) at a)
+    module _ {o n : ℕ} (a : ok (record { value = o; used = n }) ≡ taken_from (Rest b i) (field escape d (Rest b i))) where
+      left_turn : Took (drop i b) (turn escape d (drop i b)) o n
+      left_turn = turn_took escape d (drop i b) open_still (rw (part_rest i b) at a)
 
-        pub left_room : length b < 2 ^ 64 → i + n < 2 ^ 64
-        left_room h = room left_turn h
+      pub left_room : length b < 2 ^ 64 → i + n < 2 ^ 64
+      left_room h = room left_turn h
 
-        pub left_less : (from : ℕ) → from ≤ i → length b - (i + n) < length b - from
-        left_less from h = less left_turn from h
+      pub left_less : (from : ℕ) → from ≤ i → length b - (i + n) < length b - from
+      left_less from h = less left_turn from h
 
-        pub left_on : (o ≡ 0 → ⊥) → Walk escape b start (i + n) o
-        left_on m = walk_on left_turn m
+      pub left_on : (o ≡ 0 → ⊥) → Walk escape b start (i + n) o
+      left_on m = walk_on left_turn m
 
-        pub left_end : o ≡ 0 → ok (i + n) ≡ skip_call b start escape
-        left_end m = walk_end left_turn m
+      pub left_end : o ≡ 0 → ok (i + n) ≡ skip_call b start escape
+      left_end m = walk_end left_turn m
