@@ -6,7 +6,7 @@ ghost use Rattle.format.specs.Read.{number};
 ghost use Rattle.format.specs.Fields.{put};
 ghost use Rattle.fill.specs.Fill.{lent, standing, opens, Width, NumberFilled, RunFilled, LeafFilled, taken};
 
-use scalar::runs::Measure;
+use scalar::runs::Run;
 
 // Two words on the sheet: a kind and a number.
 pub fn put_pair(words: &mut [u64], w: usize, kind: u64, x: u64)
@@ -134,11 +134,11 @@ fn fill_run(
 {
     let j = i + 1;
     match scalar::runs::measure_run(&bytes[j..]) {
-        Measure::Unended => {
+        None => {
             put_pair(words, w, kind, 0);
             bytes.len()
         }
-        Measure::Run(e, len) => {
+        Some(Run { end: e, len }) => {
             if pool.len() - p < len {
                 put_pair(words, w, kind, 0);
                 return bytes.len();

@@ -128,10 +128,10 @@ module _ (d : List ℕ) (at : ℕ) (s : List ℕ) (h : at + length (escaped s) �
       record {
         ends = omega (arith, escaped_long s, start_long s, w.0);
         wrote =
-          set_put d' e 0 i
-          ∙ ap (λ (k : ℕ). put d' k (0 ∷ [])) w.0
-          ∙ ap (λ (l : List ℕ). put l (at + length (run_start s)) (0 ∷ [])) w.1
-          ∙ put_put d at (run_start s) (0 ∷ []) (omega (arith, start_fits))
-          ∙ ap (put d at) (sym (run_end s));
+            set_put d' e 0 i
+            ∙ ap (λ (k : ℕ). put d' k (0 ∷ [])) w.0
+            ∙ ap (λ (l : List ℕ). put l (at + length (run_start s)) (0 ∷ [])) w.1
+            ∙ put_put d at (run_start s) (0 ∷ []) (omega (arith, start_fits))
+            ∙ ap (put d at) (sym (run_end s));
         counted = omega (arith, start_long s, w.0);
       }

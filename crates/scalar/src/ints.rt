@@ -51,9 +51,7 @@ fn write_low(buf: &mut [u8], at: usize, k: usize, n: u64)
     ensures { buf.new ≡ put buf.old at (be k n) }
 {
     let mut left = n;
-    let mut j = k;
-    while 0 < j {
-        j -= 1;
+    for j in (0..k).rev() {
         buf[at + j] = (left % 256) as u8;
         left = left / 256;
     }
@@ -97,10 +95,8 @@ pub fn read_number(s: &[u8], k: usize) -> u64
     ensures { (result ≡ number 0 (take k s.now)) × (result < 256 ^ k) }
 {
     let mut n: u64 = 0;
-    let mut i: usize = 0;
-    while i < k {
-        n = n * 256 + s[i] as u64;
-        i += 1;
+    for byte in &s[..k] {
+        n = n * 256 + u64::from(*byte);
     }
     n
 }

@@ -10,10 +10,10 @@ returns-in_err-tag c =
     rw (e.1, e.2) (laws.union_bad c.args.depth c.args.rest.now c.in_ok-expect_mark.ensures c.in_err-tag.ensures)
 
 pub returns-then-depth-ge-MAX_RECORD_DEPTH : goal.returns-then-depth-ge-MAX_RECORD_DEPTH
-returns-then-depth-ge-MAX_RECORD_DEPTH c = laws.union_deep c.args.depth c.args.rest.now c.in_ok-expect_mark.ensures c.in_ok-tag.ensures c.if-depth-ge-MAX_RECORD_DEPTH.true
+returns-then-depth-ge-MAX_RECORD_DEPTH c = search (laws.union_deep, c.in_ok-expect_mark.ensures, c.in_ok-tag.ensures)
 
 pub overflow_add-result : goal.overflow_add-result
 overflow_add-result c = omega (arith, laws.union_within c.args.depth c.args.rest.now c.in_ok-expect_mark.ensures c.in_ok-tag.ensures)
 
 pub returns : goal.returns
-returns c = laws.union_open c.args.depth c.args.rest.now c.in_ok-expect_mark.ensures c.in_ok-tag.ensures c.if-depth-ge-MAX_RECORD_DEPTH.false
+returns c = search (laws.union_open, c.in_ok-expect_mark.ensures, c.in_ok-tag.ensures)

@@ -1,8 +1,7 @@
--- The checks stand in the definition's order; each is a law of `SpanningLaws` about the sheets that passed those before it.
+-- The checks stand in the definition's order; each is a law about the sheets that passed those before it.
+use Rattle.key.proofs.FirstsLaws.{first_words}
 use Rattle.key.proofs.SpanningLaws as laws
-use mathlib.Core.Path.{ap}
-use mathlib.Core.Bool.{not}
-use Rattle.key.proofs.spanning.refused_by.Goals as goal
+use Rattle.key.proofs.spanning.check_sheets.Goals as goal
 
 pub returns-then-not-admit_type : goal.returns-then-not-admit_type
 returns-then-not-admit_type c = search laws.c_type
@@ -19,7 +18,7 @@ returns-then-not-admit_value-2 c = search laws.c_high
 pub has_next-requires : goal.has_next-requires
 has_next-requires c =
     let a = c.args in
-    laws.c_words a.ty.now a.words.now a.pool.now a.low_words.now a.low_pool.now a.high_words.now a.high_pool.now c.admit_type.ensures (ap not c.if-not-admit_type.false) c.admit_record.ensures (ap not c.if-not-admit_record.false)
+    first_words a.ty.now a.words.now a.pool.now c.admit_type.ensures c.if-not-admit_type.false c.admit_record.ensures c.if-not-admit_record.false
 
 pub returns-then-not-has_next : goal.returns-then-not-has_next
 returns-then-not-has_next c = search laws.c_next
