@@ -1,11 +1,11 @@
 -- What a reading step answers, by what was read at the front of the rest of the key.
-use Rattle.std.proofs.Common.{◌≡◌, ◌∙◌, refl, sym, ap, Bool, true, false, List, [], ◌∷◌, ℕ, ◌+◌, ◌-◌, ◌^◌, ◌≤◌, ◌<◌, arith, ltb, leb, eqb, length, length-drop, ne_eqb, eq-eqb, eqb-true, Result, Ok, Err}
+use Rattle.std.proofs.Common.{◌≡◌, ◌∙◌, refl, sym, ap, Bool, true, false, List, [], ◌∷◌, ℕ, ◌+◌, ◌-◌, ◌^◌, ◌≤◌, ◌<◌, arith, ltb, leb, eqb, length, length-drop, ne_eqb, eq-eqb, eqb-true, Result}
 use borrow.Author.Tests.{eqb-false}
 use Rattle.format.specs.Answer.{if, Answer, ok, refused, and_then}
-use Rattle.format.specs.Refusals.{number_of, detail_of, answered}
+use Rattle.format.specs.Refusals.{answered}
 use Rattle.format.specs.declared.refusal.Refusal.{Refusal}
 use Rattle.format.specs.Read.{Read, got, bad, get_int, get_uint, get_fact_id, get_str, get_bytes, ends_here}
-use Rattle.format.specs.Fields.{Taken as TakenField, Place as PlaceField, taken_from, has_zero, placed_from, get_i64_call, get_u64_call, get_str_call, get_bytes_call}
+use Rattle.format.specs.Fields.{Taken as TakenField, taken_from, has_zero, placed_from, get_i64_call, get_u64_call, get_str_call, get_bytes_call}
 use Rattle.format.specs.Skip.{end_of}
 use Rattle.format.specs.Cursor as cursor
 use Rattle.scalar.specs.Answers.{Gives, got_int, got_part, get_fact_id_call}
@@ -14,7 +14,7 @@ use Rattle.scalar.specs.declared.taken.Taken.{Taken}
 use Rattle.scalar.proofs.Cases.{by_test}
 use Rattle.scalar.proofs.GroupLaws.{null_depth}
 use Rattle.cursor.specs.declared.Cursor.{Cursor}
-use Rattle.cursor.specs.Steps.{cursor_of, inner, outer, taken_of, moved_of, part_answer, end_of as ahead_of, Hands, used_of, step_of, key_place, PartFits, int_moved, step_moved, part_moved}
+use Rattle.cursor.specs.Steps.{cursor_of, outer, taken_of, moved_of, part_answer, Hands, used_of, key_place, PartFits, int_moved, step_moved, part_moved}
 
 -- ---- a depth or a refusal
 

@@ -1,5 +1,5 @@
 -- What a writing step answers and leaves, by what putting its bytes answered and left.
-use Rattle.std.proofs.Common.{◌≡◌, ◌∙◌, refl, sym, ap, true, false, List, [], ◌∷◌, ℕ, ◌+◌, ◌-◌, ◌≤◌, ◌<◌, arith, eqb, ltb, length, take, lt-ltb, le-ltb, Result, Ok, Err}
+use Rattle.std.proofs.Common.{◌≡◌, ◌∙◌, refl, sym, ap, true, List, [], ◌∷◌, ℕ, ◌+◌, ◌-◌, arith, eqb, ltb, take, lt-ltb, le-ltb, Result, Err}
 use Rattle.format.specs.Answer.{ok, refused}
 use Rattle.format.specs.Refusals.{number_of, detail_of, answered, Leaves}
 use Rattle.format.specs.declared.refusal.Refusal.{Refusal}
