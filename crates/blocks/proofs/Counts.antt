@@ -1,30 +1,29 @@
 -- Zeros counted over parts of a list.
-use mathlib.Core.Path.{◌≡◌, ap, ◌∙◌}
-use mathlib.Core.List.{List}
-use Prim.Native.Nat.{ℕ, ◌+◌, ◌-◌, ◌≤◌, ◌<◌}
+use mathlib.Core.Path.{◌≡◌, sym, ap, ◌∙◌}
+use mathlib.Core.Bool.{Bool}
+use mathlib.Core.List.{List, ◌∷◌}
+use mathlib.Core.Logic.{◌≢◌}
+use Prim.Native.Nat.{ℕ, ◌+◌, ◌<◌, ◌≤◌}
+use native.Mathlib.Numerals.{add-one}
 use native.Mathlib.Omega.{arith}
-use lib.ListN.{length, get_or, drop}
-use lib.Seq.{slice, length-slice, take-length}
+use lib.Dec.{eqb}
+use lib.ListN.{length, get_or, take, drop, take-append-drop}
+use lib.Seq.{drop-cons}
+use mir.Val.{bool_byte}
 use Rattle.format.specs.Zeros.{zeros}
-use Rattle.format.proofs.ZeroLaws.{zeros_zero, zeros_byte, zeros_append, zeros_le}
-use Rattle.blocks.proofs.Spans.{drop_split, slice_one}
+use Rattle.format.proofs.Tests.{Test, holds, fails, eqb_test}
+use Rattle.format.proofs.ZeroLaws.{zeros_zero, zeros_byte, zeros_append}
 
-pub zeros_chunk : (s : List ℕ) (i z : ℕ) → i ≤ z → z ≤ length s → zeros (drop i s) ≡ zeros (slice i z s) + zeros (drop z s)
-zeros_chunk s i z h l = ap zeros (drop_split s i z h l) ∙ zeros_append (slice i z s) (drop z s)
+pub zeros_cut : (n : ℕ) (s : List ℕ) → zeros s ≡ zeros (take n s) + zeros (drop n s)
+zeros_cut n s = ap zeros (sym (take-append-drop n s)) ∙ zeros_append (take n s) (drop n s)
 
-pub zeros_rest : (s : List ℕ) (i : ℕ) → zeros (slice i (length s) s) ≡ zeros (drop i s)
-zeros_rest s i = rw take-length
+-- a byte in front counts one where it is zero
+zeros_cons : (b : ℕ) (s : List ℕ) → (zeros (b ∷ s) ≡ bool_byte (eqb b 0) + zeros s) × (bool_byte (eqb b 0) ≤ 1)
+zeros_cons b s = go (eqb_test b 0)
+  where
+    go : {t : Bool} → Test (b ≡ 0) (b ≢ 0) t → (zeros (b ∷ s) ≡ bool_byte t + zeros s) × (bool_byte t ≤ 1)
+    go (holds h) = (zeros_zero b s h, omega arith)
+    go (fails h) = (zeros_byte b s h ∙ (omega arith), omega arith)
 
-pub zeros_few : (s : List ℕ) (i e : ℕ) → e ≤ length s → zeros (slice i e s) ≤ e - i
-zeros_few s i e l = omega (arith, zeros_le (slice i e s), length-slice i e s l)
-
--- the step of a loop over the places from j to e
-module _ (s : List ℕ) (j e : ℕ) (l : e ≤ length s) where
-  pub here_zero : j < e → get_or s j 0 ≡ 0 → zeros (slice j e s) ≡ 1 + zeros (slice (j + 1) e s)
-  here_zero h b = ap zeros (slice_one s j e h l) ∙ zeros_zero _ _ b
-
-  pub here_byte : j < e → (get_or s j 0 ≡ 0 → ⊥) → zeros (slice j e s) ≡ zeros (slice (j + 1) e s)
-  here_byte h b = ap zeros (slice_one s j e h l) ∙ zeros_byte _ _ b
-
-  pub here_none : e ≤ j → zeros (slice j e s) ≡ 0
-  here_none h = omega (arith, zeros_few s j e l)
+pub zeros_next : (s : List ℕ) (i : ℕ) → i < length s → (zeros (drop i s) ≡ bool_byte (eqb (get_or s i 0) 0) + zeros (drop (i + 1) s)) × (bool_byte (eqb (get_or s i 0) 0) ≤ 1)
+zeros_next s i h = let c = zeros_cons (get_or s i 0) (drop (i + 1) s) in (rw (drop-cons s i 0 h, ← add-one) c.0, c.1)

@@ -1,6 +1,7 @@
 -- Laws that the proofs share.
 pub mod Spans
 pub mod Put
-pub mod Moves
 pub mod Counts
 pub mod Orders
+pub mod Folds
+pub mod Scans

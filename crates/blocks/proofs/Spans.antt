@@ -2,11 +2,11 @@
 use mathlib.Core.Path.{◌≡◌, sym, ap, subst, ◌∙◌}
 use mathlib.Core.List.{List, ◌∷◌, ◌++◌}
 use mathlib.Core.Bool.{Bool}
-use Prim.Native.Nat.{ℕ, ◌+◌, ◌≤◌, ◌<◌}
+use Prim.Native.Nat.{ℕ, ◌+◌, ◌-◌, ◌≤◌, ◌<◌}
 use native.Mathlib.Numerals.{add-one}
 use native.Mathlib.Omega.{arith}
 use lib.Bits.{bit_or, or_add_and, and_le_l, and_le_r}
-use lib.ListN.{length, get_or, take, drop, take-append-drop}
+use lib.ListN.{length, get_or, take, drop, take-append-drop, length-take, length-drop}
 use lib.Seq.{slice, slice-cons, length-slice, get_or-drop, get_or-take, drop-append-le, length-take-le, take-take}
 use Rattle.format.proofs.Tests.{Test, holds, fails, ltb_test}
 
@@ -56,3 +56,20 @@ pub slice_join : (s : List ℕ) (i j e : ℕ) → i ≤ j → j ≤ e → e ≤ 
 slice_join s i j e h k l =
     let n : j ≤ length (take e s) = rw (length-take-le e s l) k in
     drop_split (take e s) i j h n ∙ ap (λ (t : List ℕ). drop i t ++ slice j e s) (take-take j e s k)
+
+-- the elements of the part that a range names
+pub part_at : (s : List ℕ) (i e k : ℕ) → k < e - i → get_or (take (e - i) (drop i s)) k 0 ≡ get_or s (i + k) 0
+part_at s i e k h = get_or-take (e - i) (drop i s) k 0 h ∙ get_or-drop i s k 0
+
+-- what holds of the first m elements of that part holds of each place of the range up to there
+pub span_front : (P : ℕ → Type 0) (s : List ℕ) (i e m : ℕ) → m ≤ e - i → ((k : ℕ) → 0 ≤ k → k < m → P (get_or (take (e - i) (drop i s)) k 0)) → (j : ℕ) → i ≤ j → j < i + m → P (get_or s j 0)
+span_front P s i e m h f j a b =
+    let n : i + (j - i) ≡ j = omega arith in
+    subst P (part_at s i e (j - i) (omega arith) ∙ ap (λ (k : ℕ). get_or s k 0) n) (f (j - i) (omega arith) (omega arith))
+
+-- and what holds of all of them, of the whole range
+pub span_part : (P : ℕ → Type 0) (s : List ℕ) (i e : ℕ) → e ≤ length s → ((k : ℕ) → 0 ≤ k → k < length (take (e - i) (drop i s)) → P (get_or (take (e - i) (drop i s)) k 0))
+    → (j : ℕ) → i ≤ j → j < e → P (get_or s j 0)
+span_part P s i e h f j a b =
+    let l : length (take (e - i) (drop i s)) ≡ e - i = simp (length-take, length-drop) (omega arith) in
+    span_front P s i e (e - i) (omega arith) (λ k c d. f k c (omega arith)) j a (omega arith)

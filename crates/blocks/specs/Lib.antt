@@ -2,3 +2,4 @@
 pub mod Zeros
 pub mod Ascii
 pub mod Compare
+pub mod Scan

@@ -11,27 +11,18 @@ pub fn copy_to(dst: &mut [u8], o: usize, src: &[u8], i: usize, e: usize)
     requires { (i ≤ e) × (e ≤ length src.now) × (o + (e - i) ≤ length dst.old) }
     ensures { dst.new ≡ put dst.old o (slice i e src.now) }
 {
-    let mut j: usize = i;
-    let mut k: usize = o;
-    while j < e {
-        dst[k] = src[j];
-        j += 1;
-        k += 1;
-    }
+    dst[o..o + (e - i)].copy_from_slice(&src[i..e]);
 }
 
 // As many bytes as are copied at once. The C library's memmove takes a slower way for 4,096 and more on some processors.
 const BLOCK: usize = 2048;
 
-// Copies src[i..i + n] to the same place of dst, by way of an array: it overlaps neither, and both copies count from 0 to n, so the compiler makes one memmove of
-// both, and no array.
+// Copies src[i..i + n], at most a block, to the same place of dst.
 fn copy_block(dst: &mut [u8], src: &[u8], i: usize, n: usize)
     requires { (n ≤ 2048) × (i + n ≤ length src.now) × (i + n ≤ length dst.old) }
     ensures { dst.new ≡ put dst.old i (slice i (i + n) src.now) }
 {
-    let mut block: [u8; BLOCK] = [0; BLOCK];
-    copy_to(&mut block, 0, &src[i..i + n], 0, n);
-    copy_to(dst, i, &block, 0, n);
+    copy_to(dst, i, src, i, i + n);
 }
 
 // Copies the first n bytes of src to the front of dst, block by block.
@@ -65,35 +56,11 @@ pub fn copy_clear(dst: &mut [u8], o: usize, src: &[u8]) -> usize
     ensures { (result ≤ length src.now) × NoZero src.now 0 result × (dst.new ≡ put dst.old o (slice 0 result src.now)) }
 {
     let mut i: usize = 0;
-    while clear(src, i, 64) {
+    while 64 <= src.len() - i && clear(&src[i..i + 64]) {
         copy_to(dst, o + i, src, i, i + 64);
         i += 64;
     }
     i
-}
-
-// Moves n bytes to a place that is not behind theirs: first byte first, so that none is overwritten before it was read.
-fn move_down(buf: &mut [u8], from: usize, to: usize, n: usize)
-    requires { (to ≤ from) × (from + n ≤ length buf.old) }
-    ensures { buf.new ≡ put buf.old to (take n (drop from buf.old)) }
-{
-    let mut j: usize = 0;
-    while j < n {
-        buf[to + j] = buf[from + j];
-        j += 1;
-    }
-}
-
-// Moves n bytes to a place that is not before theirs: last byte first.
-fn move_up(buf: &mut [u8], from: usize, to: usize, n: usize)
-    requires { (from ≤ to) × (to + n ≤ length buf.old) }
-    ensures { buf.new ≡ put buf.old to (take n (drop from buf.old)) }
-{
-    let mut j: usize = n;
-    while 0 < j {
-        j -= 1;
-        buf[to + j] = buf[from + j];
-    }
 }
 
 // Moves n bytes from one place of a buffer to another. The two may overlap.
@@ -101,9 +68,5 @@ pub fn move_within(buf: &mut [u8], from: usize, to: usize, n: usize)
     requires { (from + n ≤ length buf.old) × (to + n ≤ length buf.old) }
     ensures { buf.new ≡ put buf.old to (take n (drop from buf.old)) }
 {
-    if to <= from {
-        move_down(buf, from, to, n);
-    } else {
-        move_up(buf, from, to, n);
-    }
+    buf.copy_within(from..from + n, to);
 }

@@ -4,6 +4,7 @@
 mod comparing;
 mod copying;
 mod low;
+mod scan;
 mod zeros;
 
 pub use comparing::{compare, differ_at};

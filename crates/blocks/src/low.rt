@@ -2,21 +2,13 @@
 ghost use Rattle.std.specs.Prelude.{◌≡◌, true, ◌+◌, ◌≤◌, ◌<◌, length};
 ghost use Rattle.blocks.specs.Ascii.{Low};
 
-// Are there k bytes from i on, all of them ASCII? The bytes are joined by or, and their sign bits tested once.
-pub fn ascii(s: &[u8], i: usize, k: usize) -> bool
-    requires { i ≤ length s.now }
-    ensures { result ≡ true → (i + k ≤ length s.now) × Low s.now i (i + k) }
+use super::scan::past_blocks;
+
+// Are these bytes all ASCII? They are joined by or, and their sign bits tested once.
+fn ascii(block: &[u8]) -> bool
+    ensures { result ≡ true → Low block.now 0 (length block.now) }
 {
-    if s.len() - i < k {
-        return false;
-    }
-    let mut n: u8 = 0;
-    let mut j: usize = 0;
-    while j < k {
-        n = n | s[i + j];
-        j += 1;
-    }
-    n < 0x80
+    block.iter().fold(0, |all, b| all | *b) < 0x80
 }
 
 // The place behind the blocks of k bytes from a place on that are ASCII.
@@ -24,11 +16,7 @@ pub fn low_blocks(s: &[u8], from: usize, k: usize) -> usize
     requires { (from ≤ length s.now) × (0 < k) }
     ensures { (from ≤ result) × (result ≤ length s.now) × Low s.now from result }
 {
-    let mut i: usize = from;
-    while ascii(s, i, k) {
-        i += k;
-    }
-    i
+    past_blocks(from, s.len(), k, |i| ascii(&s[i..i + k]))
 }
 
 // The same where fewer than four bytes are left: a block of four that ends with them overlaps those that were tested.
@@ -43,7 +31,7 @@ fn low_rest(s: &[u8], from: usize, at: usize) -> usize
     if 4 < n - at {
         return at;
     }
-    if ascii(s, n - 4, 4) {
+    if ascii(&s[n - 4..]) {
         return n;
     }
     at

@@ -1,38 +1,26 @@
 // Zeros among bytes: the next one, and how many.
-ghost use Rattle.std.specs.Prelude.{◌≡◌, true, ◌+◌, ◌≤◌, ◌<◌, length};
-ghost use Rattle.std.proofs.Math.Seq.{slice};
+ghost use Rattle.std.specs.Prelude.{◌≡◌, true, ◌+◌, ◌≤◌, length};
 ghost use Rattle.format.specs.Zeros.{zeros};
 ghost use Rattle.blocks.specs.Zeros.{NoZero, ZeroAmong, ZeroFrom};
 
-// Are there k bytes from i on, and none of them zero? A flag and not an exit: the loop is one vector test.
-pub fn clear(s: &[u8], i: usize, k: usize) -> bool
-    requires { i ≤ length s.now }
-    ensures { result ≡ true → (i + k ≤ length s.now) × NoZero s.now i (i + k) }
+use super::scan::past_blocks;
+
+// Is none of these bytes zero? The answers are joined, and none is an exit, so that they are one vector test.
+pub fn clear(block: &[u8]) -> bool
+    ensures { result ≡ true → NoZero block.now 0 (length block.now) }
 {
-    if s.len() - i < k {
-        return false;
-    }
-    let mut none = true;
-    let mut j: usize = 0;
-    while j < k {
-        if s[i + j] == 0 {
-            none = false;
-        }
-        j += 1;
-    }
-    none
+    block.iter().fold(true, |none, b| none & (*b != 0))
 }
 
-// The place behind the blocks of k bytes from a place on that have no zero.
-fn past_clear(s: &[u8], from: usize, k: usize) -> usize
-    requires { (from ≤ length s.now) × (0 < k) }
-    ensures { (from ≤ result) × (result ≤ length s.now) × NoZero s.now from result }
+// The place of the first zero from a place on, before an end, or the end: byte by byte.
+fn zero_before(s: &[u8], from: usize, end: usize) -> usize
+    requires { (from ≤ end) × (end ≤ length s.now) }
+    ensures { ZeroAmong s.now from end result }
 {
-    let mut i: usize = from;
-    while clear(s, i, k) {
-        i += k;
+    match s[from..end].iter().position(|b| *b == 0) {
+        Some(n) => from + n,
+        None => end,
     }
-    i
 }
 
 // The place of the first zero from a place on, or the length. Wide blocks first, then narrow ones, then bytes.
@@ -40,29 +28,20 @@ fn find_zero(s: &[u8], from: usize) -> usize
     requires { from ≤ length s.now }
     ensures { ZeroFrom s.now from result }
 {
-    let wide = past_clear(s, from, 64);
-    let mut i: usize = past_clear(s, wide, 8);
-    while i < s.len() {
-        if s[i] == 0 {
-            return i;
-        }
-        i += 1;
-    }
-    i
+    let n = s.len();
+    let wide = past_blocks(from, n, 64, |i| clear(&s[i..i + 64]));
+    let narrow = past_blocks(wide, n, 8, |i| clear(&s[i..i + 8]));
+    zero_before(s, narrow, n)
 }
 
 // The zeros of at most 240 bytes, counted in a byte: as many lanes as bytes.
-fn few_zeros(s: &[u8], i: usize, e: usize) -> u8
-    requires { (i ≤ e) × (e ≤ length s.now) × (e ≤ i + 240) }
-    ensures { result ≡ zeros (slice i e s.now) }
+fn few_zeros(s: &[u8]) -> u8
+    requires { length s.now ≤ 240 }
+    ensures { result ≡ zeros s.now }
 {
     let mut n: u8 = 0;
-    let mut j: usize = i;
-    while j < e {
-        if s[j] == 0 {
-            n += 1;
-        }
-        j += 1;
+    for b in s {
+        n += u8::from(*b == 0);
     }
     n
 }
@@ -72,33 +51,12 @@ pub fn count_zeros(s: &[u8]) -> usize
     ensures { result ≡ zeros s.now }
 {
     let mut n: usize = 0;
-    let mut i: usize = 0;
-    while 240 <= s.len() - i {
-        n += few_zeros(s, i, i + 240) as usize;
-        i += 240;
+    let mut rest = s;
+    while let Some((part, more)) = rest.split_first_chunk::<240>() {
+        n += usize::from(few_zeros(part));
+        rest = more;
     }
-    let e = s.len();
-    n + few_zeros(s, i, e) as usize
-}
-
-// The place of the first zero among four bytes, or the place behind them.
-fn zero_of_four(s: &[u8], from: usize) -> usize
-    requires { from + 4 ≤ length s.now }
-    ensures { ZeroAmong s.now from (from + 4) result }
-{
-    if s[from] == 0 {
-        return from;
-    }
-    if s[from + 1] == 0 {
-        return from + 1;
-    }
-    if s[from + 2] == 0 {
-        return from + 2;
-    }
-    if s[from + 3] == 0 {
-        return from + 3;
-    }
-    from + 4
+    n + usize::from(few_zeros(rest))
 }
 
 // The place of the first zero from a place on, or the end. Eight bytes go one by one first: most runs of a key are short.
@@ -109,13 +67,9 @@ pub fn zero_from(s: &[u8], from: usize) -> usize
     if s.len() - from < 8 {
         return find_zero(s, from);
     }
-    let near = zero_of_four(s, from);
-    if near < from + 4 {
+    let near = zero_before(s, from, from + 8);
+    if near < from + 8 {
         return near;
     }
-    let far = zero_of_four(s, near);
-    if far < near + 4 {
-        return far;
-    }
-    find_zero(s, far)
+    find_zero(s, near)
 }

@@ -1,21 +1,18 @@
 -- Steps and an answer of which only the contracts are known (specs/Scrolling) are those of the definitions, which `names` is about.
+use Rattle.std.specs.Prelude.{false, Result, Ok, Err, IsOk}
 use mathlib.Core.Path.{◌≡◌, refl, sym, ◌∙◌}
 use mathlib.Core.Bool.{Bool}
 use mathlib.Core.List.{List, [], ◌∷◌, map}
 use Prim.Native.Nat.{ℕ}
-use lib.Dec.{eqb}
 use lib.ListN.{length}
-use borrow.Author.Tests.{eqb-true}
 use Rattle.format.specs.Fields.{get_str_call}
 use Rattle.format.specs.Chars as chars
 use Rattle.format.proofs.EncodeLaws.{no_answer}
 use Rattle.scalar.specs.Answers.{got_part}
-use Rattle.scalar.specs.declared.payloads.GotPart.{GotPart}
-use Rattle.scalar.proofs.Cases.{by_test}
-use Rattle.chars.specs.Reader.{step_of, Opens}
+use Rattle.format.specs.declared.refusal.Refusal.{Refusal}
+use Rattle.chars.specs.Reader.{Step, step_of, closed, Opens}
 use Rattle.chars.specs.Names.{steps_from, steps_of, name_in, Shown, Named}
-use Rattle.chars.specs.Scrolling.{Began, Ran, ended, next, Got, ShownBy, Scrolled, Scrolls}
-use Rattle.chars.specs.declared.Step.{Step}
+use Rattle.chars.specs.Scrolling.{Began, Ran, ended, next, GotPart, Got, ShownBy, Scrolled, Scrolls}
 use Rattle.chars.specs.declared.StrChars.{StrChars}
 use Rattle.chars.specs.declared.Opened.{Opened}
 use Rattle.chars.proofs.NameLaws.{names}
@@ -31,11 +28,12 @@ module _ (s : List ℕ) where
   bytes = 0x21 ∷ s
 
   -- a reader of bytes that begin with the mark is not refused
-  pub not_refused : (n d : ℕ) (done : Bool) → Opens bytes n d done → n ≡ 0
-  not_refused n d done o = by_test (eqb n 0) (λ z. eqb-true n 0 z) (λ z. absurd (no_answer (rw z at (o.answer ∙ (names.named s []).opens))))
+  pub not_refused : (r : Result Unit Refusal) → Opens bytes r → IsOk r × (closed r ≡ false)
+  not_refused (Ok u) o = (refl, refl)
+  not_refused (Err e) o = absurd (no_answer (o.answer ∙ (names.named s []).opens))
 
   begins : (o : Opened) (ts : List Step) → Began bytes o → Ran o.chars ts → map step_of ts ≡ steps_of bytes (length ts)
-  begins o ts b r = ran o.chars ts r ∙ rw (b.held, b.at_start, b.opens.finished, not_refused o.refusal o.detail o.chars.done b.opens)
+  begins o ts b r = ran o.chars ts r ∙ rw (b.held, b.at_start, b.finished, (not_refused o.opened b.opens).1)
 
   -- the answer and the part are the definition's
   answered : (scratch : List ℕ) (g : GotPart) (part : List ℕ) → Got bytes scratch g part → (get_str_call bytes scratch).answer ≡ got_part g
@@ -63,4 +61,4 @@ module _ (s : List ℕ) where
         }
 
 pub scrolls : Scrolls
-scrolls = record { opens = λ s o b. not_refused s o.refusal o.detail o.chars.done b.opens; scrolled = λ s scratch o ts g part b r h. scrolled s ts (begins s o ts b r) scratch g part h }
+scrolls = record { opens = λ s o b. (not_refused s o.opened b.opens).0; scrolled = λ s scratch o ts g part b r h. scrolled s ts (begins s o ts b r) scratch g part h }

@@ -4,7 +4,9 @@
 
 ghost use Rattle.std.specs.Prelude.{◌≡◌, false, ◌<◌, ◌+◌, length, get_or, drop};
 ghost use Rattle.format.specs.Chars as chars;
-ghost use Rattle.chars.specs.Reader.{step_of, stepped_of, refused_as, Opens, Begins, Moves};
+ghost use Rattle.chars.specs.Reader.{step_of, stepped_of, Opens, Begins, Moves};
+
+use format::Refusal;
 
 // A reader of one stored string. Any place and any flag will do.
 #[derive(Clone, Copy)]
@@ -14,24 +16,16 @@ pub struct StrChars<'a> {
     done: bool,
 }
 
-// What a step gives: a character's code point, the end, or a refusal and its detail.
-#[derive(Clone, Copy)]
-pub enum Step {
-    Char(u32),
-    End,
-    Refused(u32, u64),
-}
-
-// A step, and the reader's place and flag after it.
+// A step, a character's code point or the end, and the reader's place and flag after it.
 #[derive(Clone, Copy)]
 pub struct Stepped {
-    pub step: Step,
+    pub step: Result<Option<u32>, Refusal>,
     pub at: usize,
     pub done: bool,
 }
 
 // The end and a refusal finish the reader and leave its place.
-fn finished(step: Step, at: usize) -> Stepped
+fn finished(step: Result<Option<u32>, Refusal>, at: usize) -> Stepped
     ensures { stepped_of result ≡ chars.finished (step_of step) at }
 {
     Stepped {
@@ -46,29 +40,23 @@ fn gave(code: u32, next: usize) -> Stepped
     ensures { stepped_of result ≡ chars.gave code next }
 {
     Stepped {
-        step: Step::Char(code),
+        step: Ok(Some(code)),
         at: next,
         done: false,
     }
 }
 
 // How many bytes a lead says that its character has; other leads are taken as width 1.
+#[tactic(auto, unfolding(format::specs::Chars::lead_width))]
 pub fn utf8_width(lead: u8) -> usize
     ensures { result ≡ chars.lead_width lead }
 {
-    if lead < 0xC0 {
-        return 1;
+    match lead {
+        0xC0..=0xDF => 2,
+        0xE0..=0xEF => 3,
+        0xF0..=0xF7 => 4,
+        _ => 1,
     }
-    if lead <= 0xDF {
-        return 2;
-    }
-    if lead <= 0xEF {
-        return 3;
-    }
-    if lead <= 0xF7 {
-        return 4;
-    }
-    1
 }
 
 // At a 00: with FF behind it, it is the character 0, and else the end.
@@ -76,14 +64,10 @@ fn zero_step(s: &[u8], at: usize) -> Stepped
     requires { (at < length s.now) × (get_or s.now at 0 ≡ 0) }
     ensures { stepped_of result ≡ chars.step_at s.now at false }
 {
-    let next = at + 1;
-    if s.len() <= next {
-        return finished(Step::End, at);
+    match s.get(at + 1) {
+        Some(&next) if next == format::MARK_ESCAPE => gave(0, at + 2),
+        _ => finished(Ok(None), at),
     }
-    if s[next] != format::MARK_ESCAPE {
-        return finished(Step::End, at);
-    }
-    gave(0, next + 1)
 }
 
 // At another byte: enough bytes for the lead's width, then RFC 3629.
@@ -91,16 +75,14 @@ fn char_step(s: &[u8], at: usize) -> Stepped
     requires { (at < length s.now) × (get_or s.now at 0 ≡ 0 → ⊥) }
     ensures { stepped_of result ≡ chars.step_at s.now at false }
 {
-    let width = utf8_width(s[at]);
-    if s.len() - at < width {
-        return finished(Step::Refused(format::UNEXPECTED_EOF, 0), at);
+    let next = at + utf8_width(s[at]);
+    let Some(sequence) = s.get(at..next) else {
+        return finished(Err(Refusal::UnexpectedEof), at);
+    };
+    match text::char_at(s, at) {
+        Some(c) if text::valid(sequence) => gave(c.code, next),
+        _ => finished(Err(Refusal::BadString), at),
     }
-    let next = at + width;
-    if text::valid(&s[at..next]) {
-        let c = text::char_at(s, at);
-        return gave(c.code, next);
-    }
-    finished(Step::Refused(format::BAD_STRING, 0), at)
 }
 
 // One step on a slice, a place and a flag: the work of `next`.
@@ -108,65 +90,38 @@ pub fn step_at(s: &[u8], at: usize, done: bool) -> Stepped
     ensures { stepped_of result ≡ chars.step_at s.now at done }
 {
     if done {
-        return finished(Step::End, at);
+        return finished(Ok(None), at);
     }
-    if s.len() <= at {
-        return finished(Step::Refused(format::UNEXPECTED_EOF, 0), at);
-    }
-    if s[at] == format::MARK_TERM {
-        return zero_step(s, at);
-    }
-    char_step(s, at)
-}
-
-// Whether bytes begin as a string does: refusal 0 if so. A refused reader is finished.
-#[derive(Clone, Copy)]
-pub struct Opening {
-    pub refusal: u32,
-    pub detail: u64,
-    pub finished: bool,
-}
-
-fn refused(refusal: u32, detail: u64) -> Opening
-    ensures { result ≡ refused_as refusal detail }
-{
-    Opening {
-        refusal,
-        detail,
-        finished: true,
+    match s.get(at) {
+        None => finished(Err(Refusal::UnexpectedEof), at),
+        Some(&format::MARK_TERM) => zero_step(s, at),
+        Some(_) => char_step(s, at),
     }
 }
 
 // The mark of a string: the work of `str_chars`.
-pub fn open_at(bytes: &[u8]) -> Opening
-    ensures { Opens bytes.now result.refusal result.detail result.finished }
+pub fn open_at(bytes: &[u8]) -> Result<(), Refusal>
+    ensures { Opens bytes.now result }
 {
-    if bytes.len() == 0 {
-        return refused(format::UNEXPECTED_EOF, 0);
+    match bytes.first() {
+        None => Err(Refusal::UnexpectedEof),
+        Some(&format::MARK_STRING) => Ok(()),
+        Some(&mark) => Err(Refusal::UnexpectedMark(mark)),
     }
-    let mark = bytes[0];
-    if mark == format::MARK_STRING {
-        return Opening {
-            refusal: 0,
-            detail: 0,
-            finished: false,
-        };
-    }
-    refused(format::UNEXPECTED_MARK, format::wide(mark))
 }
 
 // The bytes behind the mark.
-pub fn contents<'a>(bytes: &'a [u8]) -> &'a [u8]
+pub fn contents(bytes: &[u8]) -> &[u8]
     ensures { result.now ≡ drop 1 bytes.now }
 {
-    if bytes.len() == 0 {
-        return &bytes[..0];
+    match bytes {
+        [] => bytes,
+        [_, rest @ ..] => rest,
     }
-    &bytes[1..]
 }
 
 // One step of a reader that is lent: what it gives, and the reader's place and flag moved.
-pub fn next<'s, 'a>(r: &'s mut StrChars<'a>) -> Step
+pub fn next(r: &mut StrChars<'_>) -> Result<Option<u32>, Refusal>
     ensures { Moves r.old result r.new }
 {
     let t = step_at(r.bytes, r.at, r.done);
@@ -175,28 +130,22 @@ pub fn next<'s, 'a>(r: &'s mut StrChars<'a>) -> Step
     t.step
 }
 
-// A new reader. Refusal 0 is none; a refused reader is finished.
+// Whether bytes begin as a string does, and a reader of it. A refused reader is finished.
 #[derive(Clone, Copy)]
 pub struct Opened<'a> {
-    pub refusal: u32,
-    pub detail: u64,
+    pub opened: Result<(), Refusal>,
     pub chars: StrChars<'a>,
 }
 
 // A reader of the string that bytes begin with, behind its mark.
-pub fn str_chars<'a>(bytes: &'a [u8]) -> Opened<'a>
-    ensures { Begins bytes.now result.refusal result.detail result.chars.bytes.now result.chars.at result.chars.done }
+pub fn str_chars(bytes: &[u8]) -> Opened<'_>
+    ensures { Begins bytes.now result.opened result.chars.bytes.now result.chars.at result.chars.done }
 {
-    let o = open_at(bytes);
-    let rest = contents(bytes);
+    let opened = open_at(bytes);
     let chars = StrChars {
-        bytes: rest,
+        bytes: contents(bytes),
         at: 0,
-        done: o.finished,
+        done: opened.is_err(),
     };
-    Opened {
-        refusal: o.refusal,
-        detail: o.detail,
-        chars,
-    }
+    Opened { opened, chars }
 }

@@ -6,9 +6,9 @@ mod names; // names.rt: a name on a line, and whether it begins with given bytes
 mod rows; // rows.rt: calls worked by hand
 mod searches; // searches.rt: names looked for among keys
 
-fn main() {
+fn main(rt: HostRuntime) -> std::io::Result<()> {
     let mut table = [0u8; 4096];
     let n = io::read_full(0, &mut table);
-    rows::rows(show::first(&table, n));
-    searches::searches();
+    rows::rows(&rt, show::first(&table, n))?;
+    searches::searches(&rt)
 }

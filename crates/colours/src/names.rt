@@ -1,39 +1,28 @@
 // Names as they are printed, and their beginnings by the plain definition. A dash alone is a blank.
+use std::fmt;
+
 pub fn blank(name: &[u8]) -> bool {
-    if name.len() != 1 {
-        return false;
-    }
-    name[0] == b'-'
+    name == b"-".as_slice()
 }
 
-// Byte by byte, with no key made.
+// By the bytes, with no key made.
 pub fn begins(name: &[u8], s: &[u8]) -> bool {
-    if name.len() < s.len() {
-        return false;
-    }
-    for i in 0..s.len() {
-        if name[i] != s[i] {
-            return false;
+    name.starts_with(s)
+}
+
+/// A name in brackets; a byte that is no printed ASCII in hexadecimal.
+#[derive(Clone, Copy)]
+pub struct Name<'a>(pub &'a [u8]);
+
+impl<'a> fmt::Display for Name<'a> {
+    fn fmt<W: fmt::Write>(&self, f: &mut fmt::Formatter<W>) -> fmt::Result {
+        f.write_str("[")?;
+        for b in self.0 {
+            match *b {
+                b' '..=b'~' => write!(f, "{}", char::from(*b))?,
+                b => write!(f, "\\x{b:02x}")?,
+            }
         }
+        f.write_str("]")
     }
-    true
-}
-
-// A byte that is no printed ASCII in hexadecimal.
-fn letter(b: u8) {
-    let one = [b];
-    if b < 0x20 || 0x7e < b {
-        show::text(b"\\x");
-        show::bytes(&one, 1);
-    } else {
-        show::text(&one);
-    }
-}
-
-pub fn name(s: &[u8]) {
-    show::text(b"[");
-    for i in 0..s.len() {
-        letter(s[i]);
-    }
-    show::text(b"]");
 }

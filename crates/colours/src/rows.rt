@@ -2,36 +2,49 @@
 // Behind a row stand the two ends, or the refusal. The lent buffers are full of EE: a refused call leaves all of it, an accepted one what lies behind the ends.
 ghost use Rattle.lines.specs.Counts.{Counts};
 
-use key::Bounded;
+use format::Refusal;
+use key::Ends;
+use show::{Hex, first};
+use std::io;
+use std::io::Write;
 
-// Are the bytes from a place on still EE? There are at most sixteen.
+// Are the bytes from a place on still EE?
 fn held(s: &[u8], from: usize) -> bool {
-    if s.len() < from {
-        return false;
-    }
-    let rest = &s[from..];
-    blocks::differ_at(rest, &[0xeeu8; 16]) == rest.len()
+    s.iter().skip(from).all(|b| *b == 0xee)
 }
 
-fn held_both(lower: &[u8], low: usize, upper: &[u8], high: usize) {
+fn held_both(
+    rt: &impl Print,
+    lower: &[u8],
+    low: usize,
+    upper: &[u8],
+    high: usize,
+) -> io::Result<()> {
     if held(lower, low) && held(upper, high) {
-        show::text(b": kept, ");
+        print!(rt; ": kept, ")
     } else {
-        show::text(b": changed, ");
+        print!(rt; ": changed, ")
     }
 }
 
-fn answer(r: Bounded, lower: &[u8; 16], upper: &[u8; 16]) {
+fn answer(
+    rt: &impl Print,
+    r: Result<Ends, Refusal>,
+    lower: &[u8; 16],
+    upper: &[u8; 16],
+) -> io::Result<()> {
     match r {
-        Bounded::Refused(no, detail) => {
-            held_both(lower, 0, upper, 0);
-            show::refusal(no, detail);
+        Ok(ends) => {
+            held_both(rt, lower, ends.lower, upper, ends.upper)?;
+            println!(rt;
+                "{} to {}",
+                Hex(first(lower, ends.lower)),
+                Hex(first(upper, ends.upper))
+            )
         }
-        Bounded::Done(low, high) => {
-            held_both(lower, low, upper, high);
-            show::bytes(lower, low);
-            show::text(b" to ");
-            show::line(upper, high);
+        Err(e) => {
+            held_both(rt, lower, 0, upper, 0)?;
+            println!(rt; "{e}")
         }
     }
 }
@@ -45,48 +58,45 @@ fn room(line: &[u8], number: usize, buf: &[u8; 16]) -> usize
     if n < all.len() { n } else { all.len() }
 }
 
-fn ask(line: &[u8], ty: &[u32], words: &[u64], pool: &[u8], s: &[u8]) {
+fn ask(
+    rt: &impl Print,
+    line: &[u8],
+    ty: &[u32],
+    words: &[u64],
+    pool: &[u8],
+    s: &[u8],
+) -> io::Result<()> {
     let mut lower = [0xeeu8; 16];
     let mut upper = [0xeeu8; 16];
     let low = room(line, 4, &lower);
     let high = room(line, 5, &upper);
     let r = key::starting_with(ty, words, pool, s, &mut lower[..low], &mut upper[..high]);
-    answer(r, &lower, &upper);
+    answer(rt, r, &lower, &upper)
 }
 
-fn with_type(line: &[u8], ty: &[u32]) {
+fn with_type(rt: &impl Print, line: &[u8], ty: &[u32]) -> io::Result<()> {
     let mut words = [0; 8192];
     let mut pool = [0; 72000];
     let mut start = [0; 72000];
     let w = lines::words(line, 1, &mut words);
     let p = lines::bytes(line, 2, &mut pool);
     let n = lines::bytes(line, 3, &mut start);
-    ask(line, ty, &words[..w], &pool[..p], &start[..n]);
+    ask(rt, line, ty, &words[..w], &pool[..p], &start[..n])
 }
 
-fn heading(line: &[u8]) -> bool {
-    if line.len() == 0 {
-        return true;
-    }
-    line[0] == b'#'
-}
-
-fn row(line: &[u8]) {
+fn row(rt: &impl Print, line: &[u8]) -> io::Result<()> {
     let mut ty = [0; format::MAX_TYPE_WORDS + 1];
-    show::text(line);
-    if heading(line) {
-        show::text(b"\n");
-        return;
+    io::writer(rt).write_all(line)?;
+    if line.is_empty() || line.starts_with(b"#") {
+        return println!(rt; "");
     }
     let t = lines::types(line, 0, &mut ty);
-    with_type(line, &ty[..t]);
+    with_type(rt, line, &ty[..t])
 }
 
-pub fn rows(table: &[u8]) {
-    let mut at: usize = 0;
-    while at < table.len() {
-        let end = lines::find(table, at, b'\n');
-        row(&table[at..end]);
-        at = end + 1;
+pub fn rows(rt: &impl Print, table: &[u8]) -> io::Result<()> {
+    for line in table.split_inclusive(|b| *b == b'\n') {
+        row(rt, line.strip_suffix(b"\n").unwrap_or(line))?;
     }
+    Ok(())
 }

@@ -1,246 +1,220 @@
 // Names under two tags, 0A and 0A 00, that begin with given bytes: by tank those whose keys lie between the ends, beside what their bytes say; then the same with
 // wrong ends.
-use crate::names;
-use blocks::Order;
-use encode::Encoded;
-use format::Length;
-use key::Bounded;
+use crate::names::{Name, begins, blank};
+use show::{Hex, first};
+use std::io;
+
+// What is looked for, and among what: the kind of the names, a list of them with a slash between two, the tank's tag, and how a name begins.
+#[derive(Clone, Copy)]
+struct Search<'a> {
+    kind: u32,
+    list: &'a [u8],
+    tank: &'a [u8],
+    start: &'a [u8],
+}
+
+impl<'a> Search<'a> {
+    // Does a name of a tank belong to what is looked for? By the bytes: the tank's own tag, and a name that begins so, which a blank never does.
+    fn is_for(self, tag: &[u8], name: &[u8]) -> bool {
+        !blank(name) && tag == self.tank && begins(name, self.start)
+    }
+}
 
 // How many names lie between the ends, how many do not, and of how many their bytes say otherwise.
-#[derive(Drop)]
+#[derive(Clone, Copy, Default, Drop)]
 struct Tally {
     inside: u64,
     outside: u64,
     otherwise: u64,
 }
 
-fn counted(t: Tally, lies: bool, begins: bool) -> Tally {
-    let mut u = t;
-    if lies {
-        u.inside = std::num::wrapping_add_u64(u.inside, 1);
-    } else {
-        u.outside = std::num::wrapping_add_u64(u.outside, 1);
+impl Tally {
+    fn count(&mut self, lies: bool, begins: bool) {
+        let place = if lies {
+            &mut self.inside
+        } else {
+            &mut self.outside
+        };
+        *place = place.saturating_add(1);
+        if lies != begins {
+            self.otherwise = self.otherwise.saturating_add(1);
+        }
     }
-    if lies != begins {
-        u.otherwise = std::num::wrapping_add_u64(u.otherwise, 1);
-    }
-    u
-}
 
-fn tally_line(t: Tally) {
-    show::text(b"    ");
-    show::number(t.inside);
-    show::text(b" in, ");
-    show::number(t.outside);
-    show::text(b" out, ");
-    if t.otherwise == 0 {
-        show::text(b"all as by their beginnings\n");
-        return;
-    }
-    show::number(t.otherwise);
-    show::text(b" not as by their beginnings\n");
-}
-
-fn at_or_above(key: &[u8], end: &[u8]) -> bool {
-    match blocks::compare(key, end) {
-        Order::Less => false,
-        Order::Equal => true,
-        Order::Greater => true,
+    fn line(self, rt: &impl Print) -> io::Result<()> {
+        print!(rt; "    {} in, {} out, ", self.inside, self.outside)?;
+        if self.otherwise == 0 {
+            println!(rt; "all as by their beginnings")
+        } else {
+            println!(rt; "{} not as by their beginnings", self.otherwise)
+        }
     }
 }
 
 // Does the key of a record lie between the ends? A refused one is printed.
-fn record_in(kind: u32, words: &[u64], pool: &[u8], lower: &[u8], upper: &[u8]) -> bool {
+fn record_in(
+    rt: &impl Print,
+    kind: u32,
+    words: &[u64],
+    pool: &[u8],
+    lower: &[u8],
+    upper: &[u8],
+) -> io::Result<bool> {
     let mut out = [0u8; 32];
     match encode::encode_key(&[5, 2, 3, 7, kind], words, pool, &mut out) {
-        Encoded::Refused(no, detail) => {
-            show::refusal(no, detail);
-            false
+        Ok(done) => {
+            let key = first(&out, done.length);
+            Ok(blocks::compare(key, lower).is_ge() && blocks::compare(key, upper).is_lt())
         }
-        Encoded::Done { length, zeros: _ } => {
-            let key = show::first(&out, length);
-            at_or_above(key, lower) && !at_or_above(key, upper)
+        Err(e) => {
+            println!(rt; "{e}")?;
+            Ok(false)
         }
     }
 }
 
 // A record's pool: the tag, and the name behind it. None where there is no room for both.
-fn join(tag: &[u8], name: &[u8], pool: &mut [u8]) -> usize {
+fn join<'a>(tag: &[u8], name: &[u8], pool: &'a mut [u8; 16]) -> &'a [u8] {
     let n = tag.len();
-    let end = name.len();
-    if pool.len() < n {
-        return 0;
+    if 16 < n || 16 - n < name.len() {
+        return &[];
     }
-    if pool.len() - n < end {
-        return 0;
-    }
-    blocks::copy_to(pool, 0, tag, 0, n);
-    blocks::copy_to(pool, n, name, 0, end);
-    n + end
+    let end = n + name.len();
+    pool[..n].copy_from_slice(tag);
+    pool[n..end].copy_from_slice(name);
+    &pool[..end]
 }
 
-fn lies_in(kind: u32, tag: &[u8], name: &[u8], lower: &[u8], upper: &[u8]) -> bool {
-    if names::blank(name) {
-        return record_in(kind, &[5, 2, 3, tag.len() as u64, 0], tag, lower, upper);
-    }
-    let mut pool = [0u8; 16];
-    let n = join(tag, name, &mut pool);
-    record_in(
-        kind,
-        &[5, 2, 3, tag.len() as u64, kind as u64, name.len() as u64],
-        show::first(&pool, n),
-        lower,
-        upper,
-    )
-}
-
-// What a search is for, by the bytes: the tank's own tag, and a name that begins with s, which a blank never does.
-fn begins_so(tag: &[u8], name: &[u8], first: &[u8], s: &[u8]) -> bool {
-    if names::blank(name) {
-        return false;
-    }
-    tag.len() == first.len() && names::begins(tag, first) && names::begins(name, s)
-}
-
-// Prints a name that lies between the ends, and counts it.
-fn judged(
+fn lies_in(
+    rt: &impl Print,
     kind: u32,
     tag: &[u8],
     name: &[u8],
-    first: &[u8],
-    s: &[u8],
     lower: &[u8],
     upper: &[u8],
-    t: Tally,
-) -> Tally {
-    let lies = lies_in(kind, tag, name, lower, upper);
-    if lies {
-        show::text(b" ");
-        names::name(name);
+) -> io::Result<bool> {
+    let n = tag.len() as u64;
+    if blank(name) {
+        return record_in(rt, kind, &[5, 2, 3, n, 0], tag, lower, upper);
     }
-    counted(t, lies, begins_so(tag, name, first, s))
+    let mut pool = [0u8; 16];
+    let both = join(tag, name, &mut pool);
+    let words = [5, 2, 3, n, u64::from(kind), name.len() as u64];
+    record_in(rt, kind, &words, both, lower, upper)
 }
 
-// The names of a list, with a slash between two, all under one tag.
+// Prints the names under one tag that lie between the ends, and counts all.
 fn tank_line(
-    kind: u32,
-    list: &[u8],
+    rt: &impl Print,
+    search: Search,
     tag: &[u8],
-    first: &[u8],
-    s: &[u8],
     lower: &[u8],
     upper: &[u8],
-    before: Tally,
-) -> Tally {
-    let mut t = before;
-    let mut at: usize = 0;
-    show::text(b"    tank ");
-    show::bytes(tag, tag.len());
-    show::text(b":");
-    while at <= list.len() {
-        let end = lines::find(list, at, b'/');
-        t = judged(kind, tag, &list[at..end], first, s, lower, upper, t);
-        at = end + 1;
+    tally: &mut Tally,
+) -> io::Result<()> {
+    print!(rt; "    tank {}:", Hex(tag))?;
+    for name in search.list.split(|b| *b == b'/') {
+        let lies = lies_in(rt, search.kind, tag, name, lower, upper)?;
+        if lies {
+            print!(rt; " {}", Name(name))?;
+        }
+        tally.count(lies, search.is_for(tag, name));
     }
-    show::text(b"\n");
-    t
+    println!(rt; "")
 }
 
-fn taken_in(kind: u32, list: &[u8], first: &[u8], s: &[u8], lower: &[u8], upper: &[u8]) {
-    show::bytes(lower, lower.len());
-    show::text(b" to ");
-    show::line(upper, upper.len());
-    let none = Tally {
-        inside: 0,
-        outside: 0,
-        otherwise: 0,
-    };
-    let one = tank_line(kind, list, b"\x0a", first, s, lower, upper, none);
-    let both = tank_line(kind, list, b"\x0a\x00", first, s, lower, upper, one);
-    tally_line(both);
+fn taken_in(rt: &impl Print, search: Search, lower: &[u8], upper: &[u8]) -> io::Result<()> {
+    let mut tally = Tally::default();
+    println!(rt; "{} to {}", Hex(lower), Hex(upper))?;
+    tank_line(rt, search, b"\x0a", lower, upper, &mut tally)?;
+    tank_line(rt, search, b"\x0a\x00", lower, upper, &mut tally)?;
+    tally.line(rt)
 }
 
 // Up to FF behind the lower end.
-fn to_ff(kind: u32, list: &[u8], first: &[u8], s: &[u8], lower: &[u8]) {
+fn to_ff(rt: &impl Print, search: Search, lower: &[u8]) -> io::Result<()> {
     let mut upper = [0u8; 32];
     match ends::above_field(lower, &mut upper) {
-        Length::Refused(no, detail) => show::refusal(no, detail),
-        Length::Done(n) => taken_in(kind, list, first, s, lower, show::first(&upper, n)),
+        Ok(n) => taken_in(rt, search, lower, first(&upper, n)),
+        Err(e) => println!(rt; "{e}"),
     }
 }
 
-fn to_strinc(kind: u32, list: &[u8], first: &[u8], s: &[u8], lower: &[u8]) {
+fn to_strinc(rt: &impl Print, search: Search, lower: &[u8]) -> io::Result<()> {
     let mut upper = [0u8; 32];
     match ends::strinc(lower, &mut upper) {
-        Length::Refused(no, detail) => show::refusal(no, detail),
-        Length::Done(n) => taken_in(kind, list, first, s, lower, show::first(&upper, n)),
+        Ok(n) => taken_in(rt, search, lower, first(&upper, n)),
+        Err(e) => println!(rt; "{e}"),
     }
 }
 
 // Behind the lower end's n bytes the buffer has zeros, so that one byte more keeps the run's end.
-fn wrong_ends(kind: u32, list: &[u8], first: &[u8], s: &[u8], buffer: &[u8], n: usize) {
-    let run = show::first(buffer, std::num::wrapping_add_usize(n, 1));
-    show::text(b"  FF in place of strinc ");
-    to_ff(kind, list, first, s, show::first(buffer, n));
-    show::text(b"  the run's end kept ");
-    to_strinc(kind, list, first, s, run);
-    show::text(b"  the run's end kept, FF in place of strinc ");
-    to_ff(kind, list, first, s, run);
+fn wrong_ends(rt: &impl Print, search: Search, buffer: &[u8], n: usize) -> io::Result<()> {
+    let run = first(buffer, n.saturating_add(1));
+    print!(rt; "  FF in place of strinc ")?;
+    to_ff(rt, search, first(buffer, n))?;
+    print!(rt; "  the run's end kept ")?;
+    to_strinc(rt, search, run)?;
+    print!(rt; "  the run's end kept, FF in place of strinc ")?;
+    to_ff(rt, search, run)
 }
 
-fn search(kind: u32, list: &[u8], first: &[u8], s: &[u8]) {
+fn look(rt: &impl Print, search: Search) -> io::Result<()> {
+    let Search {
+        kind,
+        tank,
+        start,
+        ..
+    } = search;
+    let ty = [5, 2, 3, 7, kind];
+    let words = [5, 1, 3, tank.len() as u64];
     let mut lower = [0u8; 32];
     let mut upper = [0u8; 32];
-    names::name(s);
-    show::text(b" of tank ");
-    show::line(first, first.len());
-    show::text(b"  the call ");
-    match key::starting_with(
-        &[5, 2, 3, 7, kind],
-        &[5, 1, 3, first.len() as u64],
-        first,
-        s,
-        &mut lower,
-        &mut upper,
-    ) {
-        Bounded::Refused(no, detail) => show::refusal(no, detail),
-        Bounded::Done(low, high) => {
-            taken_in(
-                kind,
-                list,
-                first,
-                s,
-                show::first(&lower, low),
-                show::first(&upper, high),
-            );
-            wrong_ends(kind, list, first, s, &lower, low);
+    println!(rt; "{} of tank {}", Name(start), Hex(tank))?;
+    print!(rt; "  the call ")?;
+    match key::starting_with(&ty, &words, tank, start, &mut lower, &mut upper) {
+        Ok(ends) => {
+            let low = first(&lower, ends.lower);
+            taken_in(rt, search, low, first(&upper, ends.upper))?;
+            wrong_ends(rt, search, &lower, ends.lower)
         }
+        Err(e) => println!(rt; "{e}"),
     }
 }
 
 // A search for each beginning of such a list.
-fn each(kind: u32, list: &[u8], first: &[u8], starts: &[u8]) {
-    let mut at: usize = 0;
-    while at <= starts.len() {
-        let end = lines::find(starts, at, b'/');
-        search(kind, list, first, &starts[at..end]);
-        at = end + 1;
+fn each(rt: &impl Print, kind: u32, list: &[u8], tank: &[u8], starts: &[u8]) -> io::Result<()> {
+    for start in starts.split(|b| *b == b'/') {
+        look(
+            rt,
+            Search {
+                kind,
+                list,
+                tank,
+                start,
+            },
+        )?;
     }
+    Ok(())
 }
 
-fn colours(list: &[u8]) {
-    each(2, list, b"\x0a", b"re//re\x00/\xc3/\x80");
-    each(2, list, b"\x0a\x00", b"re");
+fn colours(rt: &impl Print, list: &[u8]) -> io::Result<()> {
+    each(rt, 2, list, b"\x0a", b"re//re\x00/\xc3/\x80")?;
+    each(rt, 2, list, b"\x0a\x00", b"re")
 }
 
-pub fn searches() {
-    show::text(b"colour names\n");
-    colours(b"r/rd/re/re\x00/re\x00\x00/re\x00d/red/reed/rf/\xc3\xa9/\xc3\xa9cru/-");
-    show::text(b"names of bytes\n");
+pub fn searches(rt: &impl Print) -> io::Result<()> {
+    println!(rt; "colour names")?;
+    colours(
+        rt,
+        b"r/rd/re/re\x00/re\x00\x00/re\x00d/red/reed/rf/\xc3\xa9/\xc3\xa9cru/-",
+    )?;
+    println!(rt; "names of bytes")?;
     each(
+        rt,
         3,
         b"/\x0a/\x0a\x00/\x0a\x00\x00/\x0a\x00\xff/\x0a\xff/\x0a\xff\xff/\x0b/\xff/\xff\x00/-",
         b"\x0a",
         b"\x0a//\x0a\x00/\x0a\x00\xff/\x0a\xff/\xff\x00",
-    );
+    )
 }

@@ -1,95 +1,44 @@
 -- What a reading step answers, by what was read at the front of the rest of the key.
-use mathlib.Core.Path.{◌≡◌, refl, sym, ap, ◌∙◌}
-use mathlib.Core.Bool.{Bool, true, false}
-use mathlib.Core.List.{List, [], ◌∷◌}
-use Prim.Native.Nat.{ℕ, ◌+◌, ◌-◌, ◌^◌, ◌≤◌, ◌<◌}
-use native.Mathlib.Omega.{arith}
-use lib.Dec.{ltb, leb}
-use lib.ListN.{length, length-drop, drop_of_length-le}
-use borrow.Author.Tests.{eq-eqb, ne_eqb, lt-ltb, le-ltb, ltb-true}
-use Rattle.format.specs.Answer.{if, Answer, ok, refused}
-use Rattle.format.specs.Lengths.{length_in}
-use Rattle.format.specs.declared.Length.{Length}
+use Rattle.std.proofs.Common.{◌≡◌, ◌∙◌, refl, sym, ap, Bool, true, false, List, [], ◌∷◌, ℕ, ◌+◌, ◌-◌, ◌^◌, ◌≤◌, ◌<◌, arith, ltb, leb, eqb, length, length-drop, ne_eqb, eq-eqb, eqb-true, Result}
+use borrow.Author.Tests.{eqb-false}
+use Rattle.format.specs.Answer.{if, Answer, ok, refused, and_then}
+use Rattle.format.specs.Refusals.{answered}
+use Rattle.format.specs.declared.refusal.Refusal.{Refusal}
 use Rattle.format.specs.Read.{Read, got, bad, get_int, get_uint, get_fact_id, get_str, get_bytes, ends_here}
-use Rattle.format.specs.Fields.{Taken, taken_from, has_zero, placed_from, get_i64_call, get_u64_call, get_str_call, get_bytes_call}
+use Rattle.format.specs.Fields.{Taken as TakenField, taken_from, has_zero, placed_from, get_i64_call, get_u64_call, get_str_call, get_bytes_call}
 use Rattle.format.specs.Skip.{end_of}
 use Rattle.format.specs.Cursor as cursor
 use Rattle.scalar.specs.Answers.{Gives, got_int, got_part, get_fact_id_call}
-use Rattle.scalar.specs.declared.ints.GotInt.{GotInt}
-use Rattle.scalar.specs.declared.payloads.GotPart.{GotPart}
+use Rattle.scalar.specs.declared.payloads.Place.{Place}
+use Rattle.scalar.specs.declared.taken.Taken.{Taken}
 use Rattle.scalar.proofs.Cases.{by_test}
 use Rattle.scalar.proofs.GroupLaws.{null_depth}
 use Rattle.cursor.specs.declared.Cursor.{Cursor}
-use Rattle.cursor.specs.declared.Moved.{Moved}
-use Rattle.cursor.specs.declared.reading.Taken.{Taken as TakenInt}
-use Rattle.cursor.specs.declared.reading.TakenPart.{TakenPart}
-use Rattle.cursor.specs.Steps.{cursor_of, taken_of, moved_of, part_answer, Hands, used_of, step_of, key_place, PartFits, int_moved, step_moved, part_moved}
+use Rattle.cursor.specs.Steps.{cursor_of, outer, taken_of, moved_of, part_answer, Hands, used_of, key_place, PartFits, int_moved, step_moved, part_moved}
 
--- ---- the depth, and the rest of the key
+-- ---- a depth or a refusal
 
-module _ (c : Cursor) where
-  pub deep_less : c.depth < 256 → c.depth ≡ cursor.deep (cursor_of c)
-  deep_less h = rw (lt-ltb c.depth 256 h)
+pub no_depth : {A : Type 0} {n d k : ℕ} → refused n d ≡ ok k → A
+no_depth q = let z : ◌≡◌ {A = ℕ} 0 1 = cc in absurd (omega arith)
 
-  pub deep_more : 256 ≤ c.depth → 256 ≡ cursor.deep (cursor_of c)
-  deep_more h = rw (le-ltb c.depth 256 h)
-
-  -- in a group, no depth reads as none
-  pub deep_some : (d : ℕ) → d ≡ cursor.deep (cursor_of c) → (c.depth ≡ 0 → ⊥) → 0 < d
-  deep_some d e h =
-      by_test (ltb c.depth 256) (λ t. let z : d ≡ c.depth = e ∙ rw t in omega arith)
-      (λ t. let z : d ≡ 256 = e ∙ rw t in omega arith)
-
-  -- one more is not too large
-  pub deep_next : (d : ℕ) → d ≡ cursor.deep (cursor_of c) → d + 1 < 2 ^ 32
-  deep_next d e =
-      by_test (ltb c.depth 256) (λ t. let z : d ≡ c.depth = e ∙ rw t in omega (arith, ltb-true c.depth 256 t))
-      (λ t. let z : d ≡ 256 = e ∙ rw t in omega arith)
-
-  pub rest_none : (key : List ℕ) → length key < c.at → [] ≡ cursor.rest key (cursor_of c)
-  rest_none key h = let l : length key ≤ c.at = omega arith in sym (drop_of_length-le key l)
+-- a refusal is one of any call
+pub refusal_at : {A B : Type 0} {n d m e : ℕ} → ◌≡◌ {A = Answer A} (refused n d) (refused m e) → ◌≡◌ {A = Answer B} (refused n d) (refused m e)
+refusal_at q = ap (λ a. and_then a (λ v. refused 0 0)) q
 
 -- ---- what was read becomes a step
 
-module _ (c : Cursor) (d : ℕ) where
-  -- where a number was read, or not
-  module _ (g : GotInt) where
-    pub int_fits : c.at + used_of (got_int g) < 2 ^ 64 → (v n : ℕ) → g ≡ GotInt.Value v n → c.at + n < 2 ^ 64
-    int_fits h v n e = rw e at h
+module _ (c : Cursor) (d : ℕ) (b : List ℕ) where
+  int_moved_lem : (x : Read ℕ) {a : Answer (TakenField ℕ)} → a ≡ taken_from b x → int_moved d (cursor_of c) a ≡ cursor.moved_by b (cursor_of c) d x
+  int_moved_lem (got v r) e = rw e
+  int_moved_lem (bad n k) e = rw e
 
-    pub int_value : (v n : ℕ) → g ≡ GotInt.Value v n → (q : Cursor) → cursor_of q ≡ cursor.on_to (cursor_of c) n d → ok (record { value = v; next = cursor_of q }) ≡ int_moved d (cursor_of c) (got_int g)
-    int_value v n e q h = rw (e, h)
-
-    pub int_refused : (n k : ℕ) → g ≡ GotInt.Refused n k → refused n k ≡ int_moved d (cursor_of c) (got_int g)
-    int_refused n k e = rw e
-
-  -- where a group's step was taken, or not
-  module _ (g : Length) where
-    pub step_fits : c.at + step_of (length_in g) < 2 ^ 64 → (n : ℕ) → g ≡ Length.Done n → c.at + n < 2 ^ 64
-    step_fits h n e = rw e at h
-
-    pub step_done : (n : ℕ) → g ≡ Length.Done n → (q : Cursor) → cursor_of q ≡ cursor.on_to (cursor_of c) n d → ok (record { value = tt; next = cursor_of q }) ≡ step_moved d (cursor_of c) (length_in g)
-    step_done n e q h = rw (e, h)
-
-    pub step_refused : (n k : ℕ) → g ≡ Length.Refused n k → refused n k ≡ step_moved d (cursor_of c) (length_in g)
-    step_refused n k e = rw e
-
-  module _ (b : List ℕ) where
-    int_moved_lem : (x : Read ℕ) {a : Answer (Taken ℕ)} → a ≡ taken_from b x → int_moved d (cursor_of c) a ≡ cursor.moved_by b (cursor_of c) d x
-    int_moved_lem (got v r) e = rw e
-    int_moved_lem (bad n k) e = rw e
-
-    step_moved_lem : (x : Read Unit) {a : Answer ℕ} → a ≡ end_of b x → step_moved d (cursor_of c) a ≡ cursor.moved_by b (cursor_of c) d x
-    step_moved_lem (got u r) e = rw e
-    step_moved_lem (bad n k) e = rw e
+  step_moved_lem : (x : Read Unit) {a : Answer ℕ} → a ≡ end_of b x → step_moved d (cursor_of c) a ≡ cursor.moved_by b (cursor_of c) d x
+  step_moved_lem (got u r) e = rw e
+  step_moved_lem (bad n k) e = rw e
 
 used_most : (b : List ℕ) (x : Read ℕ) → used_of (taken_from b x) ≤ length b
 used_most b (got a r) = omega arith
 used_most b (bad n d) = omega arith
-
-step_most : (b : List ℕ) (x : Read Unit) → step_of (end_of b x) ≤ length b
-step_most b (got a r) = omega arith
-step_most b (bad n d) = omega arith
 
 module _ (key : List ℕ) (c : Cursor) (b : List ℕ) (e : b ≡ cursor.rest key (cursor_of c)) where
   -- what was taken ends in the key, and past the key's end nothing is taken
@@ -97,27 +46,25 @@ module _ (key : List ℕ) (c : Cursor) (b : List ℕ) (e : b ≡ cursor.rest key
   behind h k {n} l = omega (arith, ap length e ∙ length-drop c.at key)
 
   module _ (h : length key < 2 ^ 64) (k : c.at < 2 ^ 64) where
-    pub step_room : (g : Length) (x : Read Unit) → length_in g ≡ end_of b x → c.at + step_of (length_in g) < 2 ^ 64
-    step_room g x p = rw p (behind h k (step_most b x))
+    module _ (g : Result (Taken ℕ) Refusal) where
+      pub int_room : (x : Read ℕ) → got_int g ≡ taken_from b x → c.at + used_of (got_int g) < 2 ^ 64
+      int_room x p = rw p (behind h k (used_most b x))
 
-    pub int_room : (g : GotInt) (x : Read ℕ) → got_int g ≡ taken_from b x → c.at + used_of (got_int g) < 2 ^ 64
-    int_room g x p = rw p (behind h k (used_most b x))
+      pub i64_room : got_int g ≡ get_i64_call b → c.at + used_of (got_int g) < 2 ^ 64
+      unfolding get_i64_call
+      i64_room p = int_room (get_int b) p
 
-    pub i64_room : (g : GotInt) → got_int g ≡ get_i64_call b → c.at + used_of (got_int g) < 2 ^ 64
-    unfolding get_i64_call
-    i64_room g p = int_room g (get_int b) p
+      pub u64_room : got_int g ≡ get_u64_call b → c.at + used_of (got_int g) < 2 ^ 64
+      unfolding get_u64_call
+      u64_room p = int_room (get_uint b) p
 
-    pub u64_room : (g : GotInt) → got_int g ≡ get_u64_call b → c.at + used_of (got_int g) < 2 ^ 64
-    unfolding get_u64_call
-    u64_room g p = int_room g (get_uint b) p
-
-    pub id_room : (g : GotInt) → got_int g ≡ get_fact_id_call b → c.at + used_of (got_int g) < 2 ^ 64
-    unfolding get_fact_id_call
-    id_room g p = int_room g (get_fact_id b) p
+      pub id_room : got_int g ≡ get_fact_id_call b → c.at + used_of (got_int g) < 2 ^ 64
+      unfolding get_fact_id_call
+      id_room p = int_room (get_fact_id b) p
 
   module _ (d : ℕ) (f : d ≡ cursor.deep (cursor_of c)) where
     -- numbers
-    module _ (r : TakenInt) (g : GotInt) where
+    module _ (r : Result (ℕ × Cursor) Refusal) (g : Result (Taken ℕ) Refusal) where
       pub i64_taken : taken_of r ≡ int_moved d (cursor_of c) (got_int g) → got_int g ≡ get_i64_call b → taken_of r ≡ cursor.take_i64 key (cursor_of c)
       unfolding get_i64_call cursor.take_i64
       i64_taken m p = m ∙ rw (← e, ← f) (int_moved_lem c d b (get_int b) p)
@@ -134,70 +81,53 @@ module _ (key : List ℕ) (c : Cursor) (b : List ℕ) (e : b ≡ cursor.rest key
       unfolding cursor.open_union
       union_taken m p = m ∙ rw (← e, ← f) (int_moved_lem c (d + 1) b (cursor.union_mark d b) p)
 
-    -- groups and nulls
-    module _ (r : Moved) (g : Length) where
-      pub null_taken : moved_of r ≡ step_moved d (cursor_of c) (length_in g) → length_in g ≡ end_of b (cursor.null_at (if (ltb 0 d) 1 0) b) → moved_of r ≡ cursor.take_null key (cursor_of c)
+    -- a null, and a record that opens
+    module _ (r : Result Cursor Refusal) (g : Result ℕ Refusal) where
+      pub null_taken : moved_of r ≡ step_moved d (cursor_of c) (answered g) → answered g ≡ end_of b (cursor.null_at (if (ltb 0 d) 1 0) b) → moved_of r ≡ cursor.take_null key (cursor_of c)
       unfolding cursor.take_null
       null_taken m p = m ∙ rw (← e, ← f) (step_moved_lem c d b (cursor.null_at d b) (p ∙ rw (null_depth d b)))
 
-      pub record_opened : moved_of r ≡ step_moved (d + 1) (cursor_of c) (length_in g) → length_in g ≡ end_of b (cursor.record_mark d b) → moved_of r ≡ cursor.open_record key (cursor_of c)
+      pub record_opened : moved_of r ≡ step_moved (d + 1) (cursor_of c) (answered g) → answered g ≡ end_of b (cursor.record_mark d b) → moved_of r ≡ cursor.open_record key (cursor_of c)
       unfolding cursor.open_record
       record_opened m p = m ∙ rw (← e, ← f) (step_moved_lem c (d + 1) b (cursor.record_mark d b) p)
 
-      pub group_closed : (c.depth ≡ 0 → ⊥) → moved_of r ≡ step_moved (d - 1) (cursor_of c) (length_in g) → length_in g ≡ end_of b (cursor.group_end b) → moved_of r ≡ cursor.close key (cursor_of c)
-      unfolding cursor.close
-      group_closed z m p = m ∙ rw (ne_eqb c.depth 0 z, ← e, ← f) (step_moved_lem c (d - 1) b (cursor.group_end b) p)
+  -- the open group closes
+  pub group_closed : (d : ℕ) → ok d ≡ outer (cursor_of c) → (r : Result Cursor Refusal) (g : Result ℕ Refusal)
+      → moved_of r ≡ step_moved d (cursor_of c) (answered g) → answered g ≡ end_of b (cursor.group_end b) → moved_of r ≡ cursor.close key (cursor_of c)
+  unfolding cursor.close
+  group_closed d o r g m p =
+      by_test (eqb c.depth 0) (λ t. no_depth (sym (rw t at o)))
+      (λ t. let q : ok d ≡ ok (cursor.deep (cursor_of c) - 1) = rw t at o in
+      let z : d ≡ cursor.deep (cursor_of c) - 1 = cc in m ∙ rw (t, ← e, ← z) (step_moved_lem c d b (cursor.group_end b) p))
 
   -- does the open group end here?
   module _ (z : c.depth ≡ 0 → ⊥) where
-    pub ahead_eof : length b ≡ 0 → refused 1 0 ≡ cursor.is_record_end key (cursor_of c)
+    pub ahead_eof : {t : Bool} → t ≡ eqb (length b) 0 → t ≡ true → refused 1 0 ≡ cursor.is_record_end key (cursor_of c)
     unfolding cursor.is_record_end
-    ahead_eof h = rw (ne_eqb c.depth 0 z, ← e) (none b h)
+    ahead_eof {t} h k = rw (ne_eqb c.depth 0 z, ← e) (none b (eqb-true (length b) 0 (sym h ∙ k)))
       where
         none : (l : List ℕ) → length l ≡ 0 → refused 1 0 ≡ cursor.end_ahead l
         none [] h = refl
         none (x ∷ l) h = absurd (omega arith)
 
-    pub ahead_some : (length b ≡ 0 → ⊥) → (q : Bool) → q ≡ ends_here b → ok q ≡ cursor.is_record_end key (cursor_of c)
+    pub ahead_some : {t : Bool} → t ≡ eqb (length b) 0 → t ≡ false → (q : Bool) → q ≡ ends_here b → ok q ≡ cursor.is_record_end key (cursor_of c)
     unfolding cursor.is_record_end
-    ahead_some h q p = rw (ne_eqb c.depth 0 z, ← e) (some b h p)
+    ahead_some {t} h k q p = rw (ne_eqb c.depth 0 z, ← e) (some b (eqb-false (length b) 0 (sym h ∙ k)) p)
       where
         some : (l : List ℕ) → (length l ≡ 0 → ⊥) → q ≡ ends_here l → ok q ≡ cursor.end_ahead l
         some [] h p = absurd (h refl)
         some (x ∷ l) h p = rw p
 
 -- outside every group
-pub close_none : (key : List ℕ) (c : Cursor) → c.depth ≡ 0 → refused 6 0 ≡ cursor.close key (cursor_of c)
+pub close_none : (key : List ℕ) (c : Cursor) {n d : ℕ} → refused n d ≡ outer (cursor_of c) → refused n d ≡ cursor.close key (cursor_of c)
 unfolding cursor.close
-close_none key c z = rw (eq-eqb c.depth 0 z)
+close_none key c {n} {d} o = by_test (eqb c.depth 0) (λ t. rw t (refusal_at (rw t at o))) (λ t. no_depth (rw t at o))
 
 pub ahead_none : (key : List ℕ) (c : Cursor) → c.depth ≡ 0 → ok false ≡ cursor.is_record_end key (cursor_of c)
 unfolding cursor.is_record_end
 ahead_none key c z = rw (eq-eqb c.depth 0 z)
 
 -- ---- payloads
-
--- where a payload was read, or not; its place in the rest is one in the key
-module _ (c : Cursor) (g : GotPart) where
-  module _ (h : PartFits c.at (got_part g)) where
-    pub key_start : (at len n : ℕ) → g ≡ GotPart.InKey at len n → c.at + at < 2 ^ 64
-    key_start at len n e = rw e at h.start
-
-    pub key_fits : (at len n : ℕ) → g ≡ GotPart.InKey at len n → c.at + n < 2 ^ 64
-    key_fits at len n e = rw e at h.behind
-
-    pub scratch_fits : (len n : ℕ) → g ≡ GotPart.InScratch len n → c.at + n < 2 ^ 64
-    scratch_fits len n e = rw e at h.behind
-
-  module _ (d : ℕ) (f : d ≡ cursor.deep (cursor_of c)) (q : Cursor) where
-    pub part_key : (at len n : ℕ) → g ≡ GotPart.InKey at len n → cursor_of q ≡ cursor.on_to (cursor_of c) n d → part_answer (TakenPart.InKey (c.at + at) len q) ≡ part_moved (cursor_of c) (got_part g)
-    part_key at len n e h = rw (e, h, f)
-
-    pub part_scratch : (len n : ℕ) → g ≡ GotPart.InScratch len n → cursor_of q ≡ cursor.on_to (cursor_of c) n d → part_answer (TakenPart.InScratch len q) ≡ part_moved (cursor_of c) (got_part g)
-    part_scratch len n e h = rw (e, h, f)
-
-  pub part_refused : (n k : ℕ) → g ≡ GotPart.Refused n k → part_answer (TakenPart.Refused n k) ≡ part_moved (cursor_of c) (got_part g)
-  part_refused n k e = rw e
 
 -- the three ways of placing a payload
 by_place : (p s : List ℕ) {A : Type 0} → (has_zero p ≡ true → leb (length p) (length s) ≡ true → A) → (has_zero p ≡ true → leb (length p) (length s) ≡ false → A) → (has_zero p ≡ false → A) → A
@@ -230,7 +160,7 @@ same_left : (n : ℕ) (b s : List ℕ) (x : Read (List ℕ)) → (placed_from 0 
 same_left n b s (got p r) = by_place p s (λ t u. rw (t, u)) (λ t u. rw (t, u)) (λ t. rw t)
 same_left n b s (bad m d) = refl
 
-module _ (key : List ℕ) (c : Cursor) (b : List ℕ) (e : b ≡ cursor.rest key (cursor_of c)) (s : List ℕ) (g : GotPart) (s' : List ℕ) where
+module _ (key : List ℕ) (c : Cursor) (b : List ℕ) (e : b ≡ cursor.rest key (cursor_of c)) (s : List ℕ) (g : Result (Taken Place) Refusal) (s' : List ℕ) where
   module _ (h : length key < 2 ^ 64) (k : c.at < 2 ^ 64) where
     pub str_room : Gives (get_str_call b s) g s' → PartFits c.at (got_part g)
     unfolding get_str_call
@@ -240,7 +170,7 @@ module _ (key : List ℕ) (c : Cursor) (b : List ℕ) (e : b ≡ cursor.rest key
     unfolding get_bytes_call
     bytes_room p = rw p.answer (record { behind = behind key c b e h k (part_most b s (get_bytes b)); start = behind key c b e h k (bytes_place b s) })
 
-  module _ (r : TakenPart) (a : part_answer r ≡ part_moved (cursor_of c) (got_part g)) where
+  module _ (r : Result (Place × Cursor) Refusal) (a : part_answer r ≡ part_moved (cursor_of c) (got_part g)) where
     hands : (x : Read (List ℕ)) → Gives (placed_from 0 b s x) g s' → Hands (cursor.payload_moved (cursor_of c) (placed_from c.at b s x)) r s'
     hands x p = record { answer = a ∙ ap (part_moved (cursor_of c)) p.answer ∙ shift (cursor_of c) b s x; left = p.left ∙ same_left c.at b s x }
 

@@ -1,8 +1,9 @@
 -- What each answer of a step means, by cases, and how a field's answer becomes a step's.
-use Rattle.std.specs.Prelude.{◌≡◌, Bool, List, ℕ, ◌+◌, ◌^◌, ◌<◌, Result}
-use Rattle.format.specs.Answer.{Answer, ok, refused, and_then}
+use Rattle.std.specs.Prelude.{◌≡◌, Bool, List, ℕ, ◌+◌, ◌-◌, ◌^◌, ◌<◌, ltb, eqb, Result}
+use Rattle.format.specs.Answer.{if, Answer, ok, refused, and_then, BadRecord}
 use Rattle.format.specs.Refusals.{answered, answered_by}
 use Rattle.format.specs.declared.refusal.Refusal.{Refusal}
+use Rattle.format.specs.Encode.{max_depth}
 use Rattle.format.specs.Fields.{Taken as TakenField, Place, in_key, in_scratch, part_of}
 use Rattle.format.specs.Cursor as cursor
 use Rattle.scalar.specs.Answers.{place_of}
@@ -11,6 +12,13 @@ use Rattle.cursor.specs.declared.Cursor.{Cursor}
 
 abbrev pub cursor_of : Cursor → cursor.Cursor
 cursor_of c = record { at = c.at; depth = c.depth }
+
+-- the depth in a group that opens, and behind the end of the one that is open: it opens at depth 0 to 255, and at depth 0 none is open
+abbrev pub inner : cursor.Cursor → Answer ℕ
+inner c = if (ltb (cursor.deep c) max_depth) (ok (cursor.deep c + 1)) (refused BadRecord 0)
+
+abbrev pub outer : cursor.Cursor → Answer ℕ
+outer c = if (eqb c.depth 0) (refused BadRecord 0) (ok (cursor.deep c - 1))
 
 -- ---- the answers by document 01's numbers
 

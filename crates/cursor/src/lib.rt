@@ -4,12 +4,10 @@
 mod reading;
 mod writing;
 
-ghost use Rattle.std.specs.Prelude.{◌≡◌, ◌+◌, ◌-◌, ltb, eqb};
-ghost use Rattle.format.specs.Answer.{if, ok, refused, BadRecord};
+ghost use Rattle.std.specs.Prelude.{◌≡◌};
 ghost use Rattle.format.specs.Refusals.{answered};
-ghost use Rattle.format.specs.Encode.{max_depth};
 ghost use Rattle.format.specs.Cursor.{deep};
-ghost use Rattle.cursor.specs.Steps.{cursor_of};
+ghost use Rattle.cursor.specs.Steps.{cursor_of, inner, outer};
 
 use format::Refusal;
 pub use reading::{
@@ -21,7 +19,7 @@ pub use writing::{
 };
 
 // A place in the bytes and how many groups are open. Any place and any depth will do: past the end nothing is left, and a depth over 256 is 256.
-#[derive(Clone, Copy, Debug, PartialEq, Eq, Default)]
+#[derive(Clone, Copy, Debug, PartialEq, Eq)]
 pub struct Cursor {
     pub at: usize,
     pub depth: u32,
@@ -49,9 +47,20 @@ fn depth_of(c: Cursor) -> u32
     c.depth.min(format::MAX_RECORD_DEPTH)
 }
 
+// The depth in a group that opens. At depth 256 none may.
+fn inner_depth(c: Cursor) -> Result<u32, Refusal>
+    ensures { answered result ≡ inner (cursor_of c) }
+{
+    let depth = depth_of(c);
+    if format::MAX_RECORD_DEPTH <= depth {
+        return Err(Refusal::BadRecord);
+    }
+    Ok(depth + 1)
+}
+
 // The depth behind the end of the open group. At depth 0 none is open.
 fn outer_depth(c: Cursor) -> Result<u32, Refusal>
-    ensures { answered result ≡ if (eqb c.depth 0) (refused BadRecord 0) (ok (deep (cursor_of c) - 1)) }
+    ensures { answered result ≡ outer (cursor_of c) }
 {
     if c.depth == 0 {
         return Err(Refusal::BadRecord);

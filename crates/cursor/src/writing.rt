@@ -1,13 +1,11 @@
 // Writing single fields and groups at a cursor. NoRoom counts from the buffer's start, and comes last.
-ghost use Rattle.std.specs.Prelude.{◌≡◌, ◌+◌, ltb};
-ghost use Rattle.format.specs.Answer.{if, ok, refused, BadRecord};
+ghost use Rattle.std.specs.Prelude.{◌≡◌};
 ghost use Rattle.format.specs.Refusals.{answered, Leaves};
-ghost use Rattle.format.specs.Encode.{max_depth};
 ghost use Rattle.format.specs.Fields.{put_at};
 ghost use Rattle.format.specs.Cursor as cursor;
 ghost use Rattle.cursor.specs.Steps.{cursor_of, wrote_of, put_moved, StepLeaves};
 
-use crate::{Cursor, depth_of, outer_depth};
+use crate::{Cursor, depth_of, inner_depth, outer_depth};
 use format::Refusal;
 use scalar::UnionTag;
 
@@ -25,17 +23,6 @@ fn put_plain(buf: &mut [u8], at: usize, bytes: &[u8]) -> Result<usize, Refusal>
     let end = scalar::puts::room(buf.len(), at, 0, bytes.len())?;
     buf[at..end].copy_from_slice(bytes);
     Ok(end)
-}
-
-// The depth in a group that opens. At depth 256 none may.
-fn inner_depth(c: Cursor) -> Result<u32, Refusal>
-    ensures { answered result ≡ if (ltb (cursor.deep (cursor_of c)) max_depth) (ok (cursor.deep (cursor_of c) + 1)) (refused BadRecord 0) }
-{
-    let depth = depth_of(c);
-    if format::MAX_RECORD_DEPTH <= depth {
-        return Err(Refusal::BadRecord);
-    }
-    Ok(depth + 1)
 }
 
 // Puts a null. Inside a group 00 alone would be its end, so the escape follows.

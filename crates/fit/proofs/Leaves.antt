@@ -7,7 +7,11 @@ use native.Mathlib.Omega.{arith}
 use borrow.Author.Tests.{eq-eqb, ne_eqb}
 use lib.ListN.{length, take, drop}
 use lib.Seq.{slice, length-slice}
-use Rattle.format.specs.Answer.{Answer, refused, BadRecord, TypeMismatch, BadUnion}
+use Rattle.std.specs.Prelude.{Ok, Err}
+use Rattle.format.specs.Answer.{Answer, ok, refused, and_then}
+use Rattle.format.specs.Refusals.{number_of, detail_of}
+use Rattle.format.specs.declared.refusal.Refusal.{Refusal}
+use Rattle.format.specs.declared.refusal.Refusal.TheVariants as made
 use Rattle.format.specs.Scalar.{int_bytes, uint_bytes, escaped}
 use Rattle.format.specs.Encode.{in_union}
 use Rattle.format.proofs.PlainLaws.{plain_pool, plain_bytes, pool_int, pool_run, bytes_int, run_length}
@@ -15,19 +19,18 @@ use Rattle.scalar.proofs.Parts.{part_slice}
 use Rattle.scalar.proofs.Widths.{uint_long}
 use Rattle.scalar.proofs.Escapes.{escaped_bounds}
 use Rattle.sheet.specs.Places.{SkipsAlts}
-use Rattle.fit.specs.declared.Fitted.TheVariants.{Fits, Refused}
-use Rattle.fit.specs.Fit.{leaf_in, Closed}
+use Rattle.fit.specs.Fit.{placed, leaf_in, Closed}
 
 -- ---- leaves
 
 module _ (pool : List ℕ) (k x t w p n : ℕ) where
-  pub leaf_int : k ≡ 1 → n ≡ length (int_bytes x) → Fits (t + 1) (w + 2) p n ≡ leaf_in pool k x t w p
+  pub leaf_int : k ≡ 1 → n ≡ length (int_bytes x) → placed (t + 1) (w + 2) p n ≡ leaf_in pool k x t w p
   leaf_int h e =
       let end : p ≡ p + plain_pool k x = omega (arith, pool_int k x h) in
       cc (ap length (bytes_int k x (slice p (p + plain_pool k x) pool) h))
 
   module _ (no_int : k ≡ 1 → ⊥) (no_ref : k ≡ 4 → ⊥) where
-    pub leaf_run : n ≡ length (escaped (take (p + x - p) (drop p pool))) → Fits (t + 1) (w + 2) (p + x) (1 + n) ≡ leaf_in pool k x t w p
+    pub leaf_run : n ≡ length (escaped (take (p + x - p) (drop p pool))) → placed (t + 1) (w + 2) (p + x) (1 + n) ≡ leaf_in pool k x t w p
     leaf_run e =
         let end : p + x ≡ p + plain_pool k x = ap (λ (i : ℕ). p + i) (pool_run k x no_int no_ref) in
         let long : 1 + n ≡ length (plain_bytes k x (slice p (p + x) pool)) =
@@ -43,7 +46,7 @@ run_short pool x p n e h =
 -- ---- what a union makes of its payload's answer
 
 module _ (ty : List ℕ) (tag left : ℕ) (asked : Bool) where
-  pub closed_well : (at word pool len end k : ℕ) → (asked ≡ true → SkipsAlts ty at left end) → k ≡ length (uint_bytes tag) → Closed ty tag left asked (Fits at word pool len) (Fits end word pool (len + (2 + k)))
+  pub closed_well : (at word pool len end k : ℕ) → (asked ≡ true → SkipsAlts ty at left end) → k ≡ length (uint_bytes tag) → Closed ty tag left asked (Ok (placed at word pool len)) (Ok (placed end word pool (len + (2 + k))))
   unfolding in_union
   closed_well at word pool len end k skip long =
       record {
@@ -57,17 +60,5 @@ module _ (ty : List ℕ) (tag left : ℕ) (asked : Bool) where
       }
 
   -- a refusal, by what the union makes of it
-  pub closed_bad : (n d m k : ℕ) → ◌≡◌ {A = Answer Unit} (refused m k) (in_union tag (refused n d)) → Closed ty tag left asked (Refused n d) (Refused m k)
-  closed_bad n d m k h = record { brief = λ words b w p s. tt; says = λ a x f g l us e s i c q. record { answer = h ∙ ap (in_union tag) s.answer; ends = tt } }
-
-  pub closed_six : (n d : ℕ) → n ≡ BadRecord → Closed ty tag left asked (Refused n d) (Refused BadUnion tag)
-  unfolding in_union
-  closed_six n d h = closed_bad n d BadUnion tag (rw (eq-eqb n BadRecord h))
-
-  pub closed_eleven : (n d : ℕ) → (n ≡ BadRecord → ⊥) → n ≡ TypeMismatch → Closed ty tag left asked (Refused n d) (Refused BadUnion tag)
-  unfolding in_union
-  closed_eleven n d h i = closed_bad n d BadUnion tag (rw (ne_eqb n BadRecord h, eq-eqb n TypeMismatch i))
-
-  pub closed_kept : (n d : ℕ) → (n ≡ BadRecord → ⊥) → (n ≡ TypeMismatch → ⊥) → Closed ty tag left asked (Refused n d) (Refused n d)
-  unfolding in_union
-  closed_kept n d h i = closed_bad n d n d (rw (ne_eqb n BadRecord h, ne_eqb n TypeMismatch i))
+  pub closed_bad : (e d : Refusal) → ◌≡◌ {A = Answer Unit} (refused (number_of d) (detail_of d)) (in_union tag (refused (number_of e) (detail_of e))) → Closed ty tag left asked (Err e) (Err d)
+  closed_bad e d h = record { brief = λ words b w p s. tt; says = λ a x f g l us k s i c q. record { answer = h ∙ ap (in_union tag) s.answer; ends = tt } }

@@ -7,7 +7,7 @@ use Prim.Native.Nat.{ℕ, zero, suc, ◌+◌, ◌≤◌, ◌<◌}
 use native.Mathlib.Omega.{arith}
 use borrow.Author.Tests.{eq-eqb, ne_eqb, lt-ltb}
 use lib.ListN.{length, get_or}
-use Rattle.format.specs.Answer.{TypeMismatch}
+use Rattle.std.specs.Prelude.{Ok, Err}
 use Rattle.format.specs.Tree.{Ty, Val, val_kind}
 use Rattle.format.specs.Sheet.{val_words, val_pool}
 use Rattle.format.specs.Encode.{null_bytes, val_bytes, fits}
@@ -16,9 +16,8 @@ use Rattle.format.proofs.TypeKinds as type
 use Rattle.format.proofs.KindLaws.{is_null}
 use Rattle.format.proofs.Tests.{Test, holds, fails, eqb_test}
 use Rattle.sheet.specs.Places.{SkipsType}
-use Rattle.fit.specs.declared.Fitted.{Fitted}
-use Rattle.fit.specs.declared.Fitted.TheVariants.{Fits, Refused}
-use Rattle.fit.specs.Fit.{plain_place, Pair, Standing, FitValue}
+use Rattle.format.specs.declared.refusal.Refusal.TheVariants as made
+use Rattle.fit.specs.Fit.{Outcome, placed, plain_place, Pair, Standing, FitValue}
 use Rattle.fit.proofs.Steps.{value_kind, type_in_lem, plain_kind, word_in, differ}
 
 -- ---- the place of the type itself
@@ -40,7 +39,7 @@ module _ {ty words pool : List ℕ} {t w p : ℕ} (seven : get_or ty t 0 ≡ 7) 
       record { type = o.behind; deep = omega (arith, o.deep); value = s.value }
 
   -- a value that is not Null goes by the type there
-  peeled : (get_or words w 0 ≡ 0 → ⊥) → {depth : ℕ} {asked : Bool} {r : Fitted} → FitValue ty words pool (t + 1) w p depth asked r → FitValue ty words pool t w p depth asked r
+  peeled : (get_or words w 0 ≡ 0 → ⊥) → {depth : ℕ} {asked : Bool} {r : Outcome} → FitValue ty words pool (t + 1) w p depth asked r → FitValue ty words pool t w p depth asked r
   unfolding fits
   peeled n i =
       record {
@@ -59,7 +58,7 @@ module _ {ty words pool : List ℕ} {t w p : ℕ} (s : Standing ty words pool t 
 
   -- a Null is one word, and one byte or two
   pub blank : get_or words w 0 ≡ 0 → {depth : ℕ} {asked : Bool} {end n : ℕ} → (asked ≡ true → SkipsType ty t end) → n ≡ length (null_bytes depth)
-      → FitValue ty words pool t w p depth asked (Fits end (w + 1) p n)
+      → FitValue ty words pool t w p depth asked (Ok (placed end (w + 1) p n))
   unfolding fits val_bytes val_words val_pool
   blank z {depth} skip long =
       record {
@@ -78,10 +77,10 @@ module _ {ty words pool : List ℕ} {t w p : ℕ} (s : Standing ty words pool t 
 -- ---- a value of another kind than the type itself
 
 module _ {ty words pool : List ℕ} {t w p : ℕ} (s : Standing ty words pool t w p) (other : get_or words w 0 ≡ get_or ty (plain_place ty t) 0 → ⊥) {depth : ℕ} {asked : Bool} where
-  pub differ_here : (get_or ty t 0 ≡ 7 → ⊥) → FitValue ty words pool t w p depth asked (Refused TypeMismatch (get_or ty t 0))
+  pub differ_here : (get_or ty t 0 ≡ 7 → ⊥) → FitValue ty words pool t w p depth asked (Err (made.TypeMismatch (get_or ty t 0)))
   differ_here n = differ (plain_kind s n) (λ z. other (rw (place_here ty t n) z))
 
-  pub differ_behind : get_or ty t 0 ≡ 7 → (get_or words w 0 ≡ 0 → ⊥) → FitValue ty words pool t w p depth asked (Refused TypeMismatch (get_or ty (t + 1) 0))
+  pub differ_behind : get_or ty t 0 ≡ 7 → (get_or words w 0 ≡ 0 → ⊥) → FitValue ty words pool t w p depth asked (Err (made.TypeMismatch (get_or ty (t + 1) 0)))
   differ_behind seven n = peeled seven n (differ (behind_plain s seven) (λ z. other (rw (place_behind ty t seven) z)))
 
 -- ---- a value of its kind
@@ -91,7 +90,7 @@ pub record Matched (ty words pool : List ℕ) (t w p at : ℕ) : Type 0 where
   pub stands : Standing ty words pool at w p
   pub plain : get_or ty at 0 < 7
   pub same : get_or words w 0 ≡ get_or ty at 0
-  pub back : {depth : ℕ} {asked : Bool} {r : Fitted} → FitValue ty words pool at w p depth asked r → FitValue ty words pool t w p depth asked r
+  pub back : {depth : ℕ} {asked : Bool} {r : Outcome} → FitValue ty words pool at w p depth asked r → FitValue ty words pool t w p depth asked r
 
 module _ {ty words pool : List ℕ} {t w p : ℕ} (s : Standing ty words pool t w p) {at : ℕ} (is : at ≡ plain_place ty t) where
   pub place_in : at < length ty

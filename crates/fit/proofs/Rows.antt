@@ -2,9 +2,10 @@
 use mathlib.Core.Path.{◌≡◌, refl, sym, ap, ◌∙◌}
 use mathlib.Core.List.{List}
 use mathlib.Core.Bool.{Bool, true}
-use Prim.Native.Nat.{ℕ, ◌+◌, ◌-◌, ◌≤◌, ◌<◌}
+use Prim.Native.Nat.{ℕ, ◌+◌, ◌≤◌, ◌<◌}
 use native.Mathlib.Omega.{arith}
 use lib.ListN.{length, length-append}
+use Rattle.std.specs.Prelude.{Ok, Err}
 use Rattle.format.specs.Answer.{Answer, and_then}
 use Rattle.format.specs.Tree.{Ty, Tys, Val, Vals}
 use Rattle.format.specs.Sheet.{field_count, val_count, ty_words, val_words, val_pool}
@@ -12,8 +13,9 @@ use Rattle.format.specs.TypeSheet.{nesting, nestings, max_groups}
 use Rattle.format.specs.Encode.{val_bytes, vals_bytes, fits, fits_all, fine}
 use Rattle.format.proofs.TypePlaces as types
 use Rattle.format.proofs.ValuePlaces as values
-use Rattle.fit.specs.declared.Fitted.TheVariants.{Fits, Refused}
-use Rattle.fit.specs.Fit.{Pair, Row, Standing, StandingRow, Brief, FitValue, FitFields}
+use Rattle.format.specs.declared.refusal.Refusal.{Refusal}
+use Rattle.fit.specs.declared.Fitted.{Fitted}
+use Rattle.fit.specs.Fit.{placed, Pair, Row, Standing, StandingRow, Brief, FitValue, FitFields}
 
 -- what is left of the row ts, vs from the places t, w and p on; it decides, and what was passed is `sum` bytes long. Its types need stand only where they are asked for
 pub record Rest (ty words pool : List ℕ) (depth : ℕ) (asked : Bool) (ts : Tys) (vs : Vals) (e f g t w p sum left : ℕ) : Type 0 where
@@ -30,7 +32,7 @@ pub record Rest (ty words pool : List ℕ) (depth : ℕ) (asked : Bool) (ts : Ty
 
 -- of every row at the start
 pub record Left (ty words pool : List ℕ) (at from start n depth : ℕ) (asked : Bool) (t w p sum left : ℕ) : Type 0 where
-  pub brief : Brief words pool from start (Fits t w p sum)
+  pub brief : Brief words pool from start (Ok (placed t w p sum))
   pub rest : (ts : Tys) (vs : Vals) (e f g : ℕ) → Row ty words pool at from start n ts vs e f g → Rest ty words pool depth asked ts vs e f g t w p sum left
 
 -- the first of what is left, and what is behind it
@@ -46,8 +48,8 @@ record Next (ty words pool : List ℕ) (depth : ℕ) (ts : Tys) (vs : Vals) (e f
   types : types.TypesIn ty m more e
   deep : nestings more ≤ max_groups
   values : values.ValuesIn words pool f₁ g₁ others f g
-  count : field_count more ≡ left - 1
-  same : val_count others ≡ left - 1
+  count : field_count more + 1 ≡ left
+  same : val_count others + 1 ≡ left
   answer : fits_all ts depth vs ≡ and_then (fits T depth v) (λ u. fits_all more depth others)
   long : length (vals_bytes depth vs) ≡ sum + length (val_bytes depth v) + length (vals_bytes depth others)
 
@@ -95,10 +97,11 @@ none_left {ty} {words} {pool} {depth} {asked} {ts} {vs} {e} {f} {g} {t} {w} {p} 
     go (Tys.AddTy T ts') vs' a b i j k l = absurd (omega arith)
 
 module _ {ty words pool : List ℕ} {at from start n : ℕ} (s : StandingRow ty words pool at from start n) where
-  pub start_left : (depth : ℕ) (asked : Bool) → Left ty words pool at from start n depth asked at from start 0 n
-  start_left depth asked =
+  pub start_left : (depth : ℕ) (asked : Bool) {left : ℕ} → n ≡ left → Left ty words pool at from start n depth asked at from start 0 left
+  start_left depth asked e =
       let i = s.here.values in
-      record {
+      rw (← e)
+      (record {
         brief = (omega arith, omega (arith, i.words.long, i.words.within), omega arith, omega (arith, i.pool.long, i.pool.within), omega arith);
         rest = λ ts vs e f g r.
             record {
@@ -113,7 +116,7 @@ module _ {ty words pool : List ℕ} {at from start n : ℕ} (s : StandingRow ty 
               answer = refl;
               long = omega arith;
             };
-      }
+      })
 
   module _ {depth : ℕ} {asked : Bool} {t w p sum left : ℕ} (i : Left ty words pool at from start n depth asked t w p sum left) where
     pub next_stands : 0 < left → Standing ty words pool t w p
@@ -122,7 +125,7 @@ module _ {ty words pool : List ℕ} {at from start n : ℕ} (s : StandingRow ty 
         record { T = x.T; v = x.v; e = x.m; f = x.f₁; g = x.g₁; here = x.pair; few = s.few; small = s.small }
 
 module _ {ty words pool : List ℕ} {at from start n depth : ℕ} {asked : Bool} {t w p sum left : ℕ} (i : Left ty words pool at from start n depth asked t w p sum left) where
-  pub all_passed : left ≤ 0 → FitFields ty words pool at from start n depth asked (Fits t w p sum)
+  pub all_passed : left ≤ 0 → FitFields ty words pool at from start n depth asked (Ok (placed t w p sum))
   all_passed none =
       record {
         brief = i.brief;
@@ -130,8 +133,8 @@ module _ {ty words pool : List ℕ} {at from start n depth : ℕ} {asked : Bool}
       }
 
   module _ (some : 0 < left) {ask : Bool} where
-    pub field_refused : {m d : ℕ} → FitValue ty words pool t w p depth ask (Refused m d) → FitFields ty words pool at from start n depth asked (Refused m d)
-    field_refused {m} {d} right =
+    pub field_refused : {d : Refusal} → FitValue ty words pool t w p depth ask (Err d) → FitFields ty words pool at from start n depth asked (Err d)
+    field_refused right =
         record {
           brief = tt;
           says = λ ts vs e f g r.
@@ -140,9 +143,9 @@ module _ {ty words pool : List ℕ} {at from start n depth : ℕ} {asked : Bool}
               record { answer = sym (x.answer ∙ ap (λ (a : Answer Unit). and_then a (λ u. fits_all x.more depth x.others)) (sym q)); ends = tt };
         }
 
-    pub field_passed : (1 < left → ask ≡ true) → (asked ≡ true → ask ≡ true) → {t₁ w₁ p₁ len : ℕ} → FitValue ty words pool t w p depth ask (Fits t₁ w₁ p₁ len)
-        → Left ty words pool at from start n depth asked t₁ w₁ p₁ (sum + len) (left - 1)
-    field_passed more last {t₁} {w₁} {p₁} {len} right =
+    pub field_passed : (1 < left → ask ≡ true) → (asked ≡ true → ask ≡ true) → {x : Fitted} {k : ℕ} → left ≡ k + 1 → FitValue ty words pool t w p depth ask (Ok x)
+        → Left ty words pool at from start n depth asked x.at x.word x.pool (sum + x.len) k
+    field_passed more last one right =
         let b = i.brief in
         let c = right.brief in
         record {
@@ -155,8 +158,8 @@ module _ {ty words pool : List ℕ} {at from start n depth : ℕ} {asked : Bool}
                 ts' = x.more;
                 vs' = x.others;
                 deep = x.deep;
-                count = x.count;
-                same = x.same;
+                count = omega (arith, one, x.count);
+                same = omega (arith, one, x.same);
                 asked_types = λ q. rw (k.0 (last q)) x.types;
                 types = λ q. rw (k.0 (more (omega arith))) x.types;
                 values = rw (k.1, k.2) x.values;

@@ -8,7 +8,9 @@ use native.Mathlib.Omega.{arith}
 use borrow.Author.Tests.{eq-eqb, ne_eqb, lt-ltb, le-ltb}
 use lib.ListN.{length, get_or, length-append}
 use lib.Seq.{slice, length-slice}
-use Rattle.format.specs.Answer.{Answer, ok, refused, BadRecord, UnknownDiscriminant, TypeMismatch, BadUnion}
+use Rattle.std.specs.Prelude.{Option, Some, None, Ok, Err}
+use Rattle.format.specs.Answer.{Answer, ok, refused, UnknownDiscriminant, TypeMismatch}
+use Rattle.format.specs.Refusals.{answered, number_of, detail_of}
 use Rattle.format.specs.Tree.{Ty, Alts, Val, val_kind}
 use Rattle.format.specs.Sheet.{field_count, val_count}
 use Rattle.format.specs.TypeSheet.{max_groups, nesting}
@@ -20,16 +22,16 @@ use Rattle.format.proofs.ValuePlaces as values
 use Rattle.format.proofs.TypeKinds as type
 use Rattle.format.proofs.ValueKinds as value
 use Rattle.format.proofs.PlainLaws.{plain_pool, plain_bytes, Plain, plain, bytes_int, run_length}
-use Rattle.format.proofs.FitLaws.{mismatch}
+use Rattle.format.proofs.FitLaws.{mismatch, clash}
 use Rattle.format.proofs.Choose.{choose, chosen, fits_chosen}
 use Rattle.format.proofs.Tests.{Test, holds, fails, eqb_test}
 use Rattle.scalar.proofs.Widths.{int_long, ref_long}
 use Rattle.scalar.proofs.Escapes.{escaped_bounds}
 use Rattle.sheet.specs.Places.{Picks}
 use Rattle.sheet.proofs.PickLaws.{missing, picked}
+use Rattle.format.specs.declared.refusal.Refusal.TheVariants as made
 use Rattle.fit.specs.declared.Fitted.{Fitted}
-use Rattle.fit.specs.declared.Fitted.TheVariants.{Fits, Refused}
-use Rattle.fit.specs.Fit.{Pair, Standing, StandingRow, leaf_in, ref_in, longer, len_of, Says, Brief, FitValue, FitFields, Closed}
+use Rattle.fit.specs.Fit.{Pair, Standing, StandingRow, Outcome, placed, leaf_in, ref_in, longer, len_of, Says, Brief, FitValue, FitFields, Closed}
 
 -- ---- the words at the places
 
@@ -114,7 +116,7 @@ module _ {ty words pool : List ℕ} {t w p : ℕ} (s : Standing ty words pool t 
 -- ---- a value of another kind, and leaves
 
 module _ {ty words pool : List ℕ} {t w p depth : ℕ} {asked : Bool} where
-  pub differ : get_or ty t 0 < 7 → (get_or words w 0 ≡ get_or ty t 0 → ⊥) → FitValue ty words pool t w p depth asked (Refused TypeMismatch (get_or ty t 0))
+  pub differ : get_or ty t 0 < 7 → (get_or words w 0 ≡ get_or ty t 0 → ⊥) → FitValue ty words pool t w p depth asked (Err (made.TypeMismatch (get_or ty t 0)))
   differ plain h =
       record {
         brief = tt;
@@ -124,7 +126,7 @@ module _ {ty words pool : List ℕ} {t w p depth : ℕ} {asked : Bool} where
       }
 
   module _ (same : get_or words w 0 ≡ get_or ty t 0) where
-    pub leaf : Standing ty words pool t w p → get_or ty t 0 < 4 → FitValue ty words pool t w p depth asked (leaf_in pool (get_or ty t 0) (get_or words (w + 1) 0) t w p)
+    pub leaf : Standing ty words pool t w p → get_or ty t 0 < 4 → FitValue ty words pool t w p depth asked (Ok (leaf_in pool (get_or ty t 0) (get_or words (w + 1) 0) t w p))
     leaf s h =
         let k = get_or ty t 0 in
         let x = get_or words (w + 1) 0 in
@@ -150,37 +152,43 @@ module _ {ty words pool : List ℕ} {t w p depth : ℕ} {asked : Bool} where
                 omega (arith, run_length k x (slice p (p + plain_pool k x) pool) n (λ z. omega arith), (escaped_bounds (slice p (p + plain_pool k x) pool)).1, long)
 
     -- a reference, judged
-    pub reference : Standing ty words pool t w p → get_or ty t 0 ≡ 4 → FitValue ty words pool t w p depth asked (ref_in (fits_ref (get_or ty (t + 1) 0) (get_or words (w + 1) 0)) t w p)
+    pub reference : Standing ty words pool t w p → get_or ty t 0 ≡ 4 → {r : Outcome} → answered r ≡ ref_in (fits_ref (get_or ty (t + 1) 0) (get_or words (w + 1) 0)) t w p → FitValue ty words pool t w p depth asked r
     unfolding fits val_bytes
-    reference s h =
+    reference s h {r} k =
+        let judge = fits_ref (get_or ty (t + 1) 0) (get_or words (w + 1) 0) in
         record {
-          brief = short (fits_ref (get_or ty (t + 1) 0) (get_or words (w + 1) 0));
+          brief = short r judge k;
           says = λ T v e f g i.
               let a = type.ref_here T i.type h in
               let b = value.ref_here v i.value (same ∙ h) in
-              rw (a.is, b.is) (said e f g (fits_ref (get_or ty (t + 1) 0) (get_or words (w + 1) 0)) (sym a.end) (sym b.end) (sym b.pool) (sym (ref_long (get_or words (w + 1) 0))));
+              rw (a.is, b.is) (said r judge k (sym a.end) (sym b.end) (sym b.pool) (sym (ref_long (get_or words (w + 1) 0))));
         }
       where
-        short : (a : Answer Unit) → Brief words pool w p (ref_in a t w p)
-        short (ok u) = (omega arith, omega (arith, word_second s same), omega arith, omega (arith, s.here.value.pool.long, s.here.value.pool.within), omega arith)
-        short (refused n d) = tt
+        short : (r : Outcome) (a : Answer Unit) → answered r ≡ ref_in a t w p → Brief words pool w p r
+        short (Err n) a k = tt
+        short (Ok x) (refused n d) k = clash (sym k)
+        short (Ok x) (ok u) k =
+            let is : x ≡ placed (t + 2) (w + 2) p 9 = cc in
+            rw is (omega arith, omega (arith, word_second s same), omega arith, omega (arith, s.here.value.pool.long, s.here.value.pool.within), omega arith)
 
-        said : (e f g : ℕ) (a : Answer Unit) {n : ℕ} → t + 2 ≡ e → w + 2 ≡ f → p ≡ g → 9 ≡ n → Says a asked e f g n (ref_in a t w p)
-        said e f g (ok u) i j k l = record { answer = refl; ends = (λ q. i, j, k, l) }
-        said e f g (refused n d) i j k l = record { answer = refl; ends = tt }
+        said : (r : Outcome) (a : Answer Unit) → answered r ≡ ref_in a t w p → {e f g n : ℕ} → t + 2 ≡ e → w + 2 ≡ f → p ≡ g → 9 ≡ n → Says a asked e f g n r
+        said (Ok x) (ok u) k i j l m = let is : x ≡ placed (t + 2) (w + 2) p 9 = cc in rw is (record { answer = refl; ends = (λ q. i, j, l, m) })
+        said (Ok x) (refused n d) k i j l m = clash (sym k)
+        said (Err n) (ok u) k i j l m = clash k
+        said (Err y) (refused m d) k i j l q = record { answer = let z : ◌≡◌ {A = Answer Unit} (refused (number_of y) (detail_of y)) (refused m d) = cc in z; ends = tt }
 
 -- ---- records
 
-longer_brief : (words pool : List ℕ) (w p : ℕ) (r : Fitted) → Brief words pool (w + 2) p r → Brief words pool w p (longer 2 r)
-longer_brief words pool w p (Fits at word end len) b = (omega (arith, b.0), b.1, b.2, b.3, omega (arith, b.4))
-longer_brief words pool w p (Refused n d) b = tt
+longer_brief : (words pool : List ℕ) (w p : ℕ) (r : Outcome) → Brief words pool (w + 2) p r → Brief words pool w p (longer 2 r)
+longer_brief words pool w p (Ok x) b = (omega (arith, b.0), b.1, b.2, b.3, omega (arith, b.4))
+longer_brief words pool w p (Err n) b = tt
 
-longer_says : {a : Answer Unit} {asked : Bool} {e f g n m : ℕ} (r : Fitted) → n + 2 ≡ m → Says a asked e f g n r → Says a asked e f g m (longer 2 r)
-longer_says (Fits at word end len) q s = record { answer = s.answer; ends = (s.ends.0, s.ends.1, s.ends.2, omega (arith, s.ends.3)) }
-longer_says (Refused n d) q s = record { answer = s.answer; ends = tt }
+longer_says : {a : Answer Unit} {asked : Bool} {e f g n m : ℕ} (r : Outcome) → n + 2 ≡ m → Says a asked e f g n r → Says a asked e f g m (longer 2 r)
+longer_says (Ok x) q s = record { answer = s.answer; ends = (s.ends.0, s.ends.1, s.ends.2, omega (arith, s.ends.3)) }
+longer_says (Err d) q s = record { answer = s.answer; ends = tt }
 
 module _ {ty words pool : List ℕ} {t w p depth : ℕ} {asked : Bool} (same : get_or words w 0 ≡ get_or ty t 0) (kind : get_or ty t 0 ≡ 5) where
-  pub miscount : (get_or words (w + 1) 0 ≡ get_or ty (t + 1) 0 → ⊥) → FitValue ty words pool t w p depth asked (Refused BadRecord 0)
+  pub miscount : (get_or words (w + 1) 0 ≡ get_or ty (t + 1) 0 → ⊥) → FitValue ty words pool t w p depth asked (Err made.BadRecord)
   unfolding fits
   miscount h =
       record {
@@ -192,7 +200,7 @@ module _ {ty words pool : List ℕ} {t w p depth : ℕ} {asked : Bool} (same : g
       }
 
   module _ (count : get_or words (w + 1) 0 ≡ get_or ty (t + 1) 0) where
-    pub too_deep : 256 ≤ depth → FitValue ty words pool t w p depth asked (Refused BadRecord 0)
+    pub too_deep : 256 ≤ depth → FitValue ty words pool t w p depth asked (Err made.BadRecord)
     unfolding fits
     too_deep h =
         record {
@@ -203,7 +211,7 @@ module _ {ty words pool : List ℕ} {t w p depth : ℕ} {asked : Bool} (same : g
               record { answer = rw (a.is, b.is, eq-eqb (field_count a.ts) (val_count b.vs) (sym a.count ∙ sym count ∙ b.count), le-ltb depth 256 h); ends = tt };
         }
 
-    pub in_record : depth < 256 → {r : Fitted} → FitFields ty words pool (t + 2) (w + 2) p (get_or ty (t + 1) 0) (depth + 1) asked r → FitValue ty words pool t w p depth asked (longer 2 r)
+    pub in_record : depth < 256 → {r : Outcome} → FitFields ty words pool (t + 2) (w + 2) p (get_or ty (t + 1) 0) (depth + 1) asked r → FitValue ty words pool t w p depth asked (longer 2 r)
     unfolding fits val_bytes
     in_record h {r} i =
         record {
@@ -248,8 +256,8 @@ module _ {ty words pool : List ℕ} {t w p : ℕ} (same : get_or words w 0 ≡ g
         long = ap (λ (u : Val). length (val_bytes depth u)) b.is ∙ omega (arith, length-append (uint_bytes x) (bytes ++ 0 ∷ []), length-append bytes (0 ∷ []));
       }
 
-  module _ {place left : ℕ} (found : Picks ty t (get_or words (w + 1) 0) place left) where
-    pub payload_stands : Standing ty words pool t w p → (place ≡ 0 → ⊥) → Standing ty words pool place (w + 2) p
+  module _ {place : Option ℕ} {left : ℕ} (found : Picks ty t (get_or words (w + 1) 0) place left) where
+    pub payload_stands : Standing ty words pool t w p → {at : ℕ} → place ≡ Some at → Standing ty words pool at (w + 2) p
     payload_stands s z =
         let u = union_pair 0 s.here in
         let c = picked found u.us u.type u.deep z in
@@ -265,7 +273,7 @@ module _ {ty words pool : List ℕ} {t w p : ℕ} (same : get_or words w 0 ≡ g
         }
 
     module _ {depth : ℕ} {asked : Bool} where
-      pub no_alternative : place ≡ 0 → FitValue ty words pool t w p depth asked (Refused UnknownDiscriminant (get_or words (w + 1) 0))
+      pub no_alternative : place ≡ None → FitValue ty words pool t w p depth asked (Err (made.UnknownDiscriminant (get_or words (w + 1) 0)))
       no_alternative z =
           record {
             brief = tt;
@@ -274,8 +282,8 @@ module _ {ty words pool : List ℕ} {t w p : ℕ} (same : get_or words w 0 ≡ g
                 record { answer = sym (rw (missing found u.us u.type u.deep z) at u.is); ends = tt };
           }
 
-      module _ (z : place ≡ 0 → ⊥) where
-        pub deep_union : 256 ≤ depth → FitValue ty words pool t w p depth asked (Refused BadUnion (get_or words (w + 1) 0))
+      module _ {at : ℕ} (z : place ≡ Some at) where
+        pub deep_union : 256 ≤ depth → FitValue ty words pool t w p depth asked (Err (made.BadUnion (get_or words (w + 1) 0)))
         unfolding in_union
         deep_union h =
             record {
@@ -286,7 +294,7 @@ module _ {ty words pool : List ℕ} {t w p : ℕ} (same : get_or words w 0 ≡ g
                   record { answer = sym (rw (c.is, le-ltb depth 256 h) at u.is); ends = tt };
             }
 
-        pub in_union_lem : depth < 256 → {r r' : Fitted} → FitValue ty words pool place (w + 2) p (depth + 1) asked r → Closed ty (get_or words (w + 1) 0) left asked r r' → FitValue ty words pool t w p depth asked r'
+        pub in_union_lem : depth < 256 → {r r' : Outcome} → FitValue ty words pool at (w + 2) p (depth + 1) asked r → Closed ty (get_or words (w + 1) 0) left asked r r' → FitValue ty words pool t w p depth asked r'
         in_union_lem h {r} {r'} i end =
             record {
               brief = end.brief words pool w p i.brief;
@@ -300,11 +308,11 @@ module _ {ty words pool : List ℕ} {t w p : ℕ} (same : get_or words w 0 ≡ g
 
 -- ---- no sum is too large
 
-pub brief_short : (words pool : List ℕ) (w p : ℕ) (r : Fitted) → length words ≤ max_value_words → length pool ≤ max_value_words → Brief words pool w p r → len_of r < 2 ^ 32
-brief_short words pool w p (Fits at word end len) few small b = omega (arith, b.1, b.3, b.4)
-brief_short words pool w p (Refused n d) few small b = omega arith
+pub brief_short : (words pool : List ℕ) (w p : ℕ) (r : Outcome) → length words ≤ max_value_words → length pool ≤ max_value_words → Brief words pool w p r → len_of r < 2 ^ 32
+brief_short words pool w p (Ok x) few small b = omega (arith, b.1, b.3, b.4)
+brief_short words pool w p (Err n) few small b = omega arith
 
-module _ {ty words pool : List ℕ} {t₀ w₀ p₀ : ℕ} (s : Standing ty words pool t₀ w₀ p₀) {t w p depth : ℕ} {asked : Bool} {r : Fitted} where
+module _ {ty words pool : List ℕ} {t₀ w₀ p₀ : ℕ} (s : Standing ty words pool t₀ w₀ p₀) {t w p depth : ℕ} {asked : Bool} {r : Outcome} where
   pub value_short : FitValue ty words pool t w p depth asked r → len_of r < 2 ^ 32
   value_short i = brief_short words pool w p r s.few s.small i.brief
 

@@ -1,12 +1,12 @@
 // The encoder's measuring walk: over a type and a value, without a buffer. It finds every refusal, or where type and value end and how long the encoding is.
 #![tactic(auto)]
 
-ghost use Rattle.std.specs.Prelude.{◌≡◌, ◌+◌, ◌≤◌, ◌<◌, ◌^◌, length, get_or};
+ghost use Rattle.std.specs.Prelude.{◌≡◌, ◌+◌, ◌≤◌, ◌<◌, ◌^◌, length, get_or, Err};
 ghost use Rattle.format.specs.ValueSheet.{max_value_words};
-ghost use Rattle.format.specs.Encode.{fits_ref, null_bytes};
+ghost use Rattle.format.specs.Encode.{fits_ref, in_union, null_bytes};
 ghost use Rattle.format.specs.Refusals.{answered};
 ghost use Rattle.format.proofs.PlainLaws.{plain_pool};
-ghost use Rattle.fit.specs.Fit.{plain_place, leaf_in, ref_in, longer, len_of, Standing, StandingRow, Closed, FitValue, FitFields};
+ghost use Rattle.fit.specs.Fit.{plain_place, answer_of, leaf_in, ref_in, len_of, Standing, StandingRow, Closed, FitValue, FitFields};
 
 use format::Refusal;
 
@@ -55,19 +55,17 @@ fn fit_ref(predicate: u32, raw: u64, t: usize, w: usize, p: usize) -> Result<Fit
     })
 }
 
-// What a record makes of its fields' answer: its mark and its end are two bytes more.
-fn in_record(fields: Result<Fitted, Refusal>) -> Result<Fitted, Refusal>
-    requires { len_of fields < 2 ^ 32 }
-    ensures { result ≡ longer 2 fields }
+// What a union says no with, for what its payload was refused with: BadRecord and TypeMismatch are BadUnion there.
+fn union_refusal(why: Refusal, tag: u64) -> Refusal
+    ensures { answer_of (Err result) ≡ in_union tag (answer_of (Err why)) }
 {
-    let row = fields?;
-    Ok(Fitted {
-        len: row.len + 2,
-        ..row
-    })
+    match why {
+        Refusal::BadRecord | Refusal::TypeMismatch(_) => Refusal::BadUnion(tag),
+        _ => why,
+    }
 }
 
-// What a union makes of its payload's answer: the end of its alternatives, where that is asked for, and its tag; or the refusal, BadRecord and TypeMismatch as BadUnion.
+// What a union makes of its payload's answer: the end of its alternatives, where that is asked for, and its tag; or its refusal.
 fn in_union(
     ty: &[u32],
     payload: Result<Fitted, Refusal>,
@@ -84,8 +82,7 @@ fn in_union(
             len: inner.len + (2 + scalar::ints::uint_len(tag)),
             ..inner
         }),
-        Err(Refusal::BadRecord | Refusal::TypeMismatch(_)) => Err(Refusal::BadUnion(tag)),
-        Err(why) => Err(why),
+        Err(why) => Err(union_refusal(why, tag)),
     }
 }
 
@@ -174,7 +171,11 @@ pub fn fit_value(
         if format::MAX_RECORD_DEPTH <= depth {
             return Err(Refusal::BadRecord);
         }
-        return in_record(fit_fields(ty, words, pool, at + 2, w + 2, p, n, depth + 1, asked));
+        let row = fit_fields(ty, words, pool, at + 2, w + 2, p, n, depth + 1, asked)?;
+        return Ok(Fitted {
+            len: row.len + 2, // its mark and its end
+            ..row
+        });
     }
     let choice = sheet::alternative(ty, at, x);
     let place = choice.place.ok_or(Refusal::UnknownDiscriminant(x))?;
@@ -208,8 +209,10 @@ pub fn fit_fields(
         len: 0,
     };
     for passed in 0..n {
-        let last = sheet::asks(n - passed, asked);
-        let field = fit_value(ty, words, pool, row.at, row.word, row.pool, depth, last)?;
+        let end_asked = sheet::asks(n - passed, asked);
+        let field = fit_value(
+            ty, words, pool, row.at, row.word, row.pool, depth, end_asked,
+        )?;
         row = Fitted {
             len: row.len + field.len,
             ..field

@@ -1,14 +1,17 @@
 -- A record sheet by its first two words, whether a type has a field behind as many, and what judging the sheet's values says.
 use mathlib.Core.Path.{◌≡◌, refl, sym, ap, ◌∙◌}
-use mathlib.Core.Bool.{Bool, true, false, not}
+use mathlib.Core.Bool.{Bool, true, false}
 use mathlib.Core.Option.{Option, some, none}
 use mathlib.Core.List.{List, ◌++◌}
 use Prim.Native.Nat.{ℕ, ◌+◌, ◌≤◌, ◌<◌, ◌^◌}
 use native.Mathlib.Omega.{arith}
-use borrow.Author.Tests.{not-true, not-false, eqb-true, ltb-true}
+use borrow.Author.Tests.{eqb-true, ltb-true}
 use lib.Dec.{eqb, ltb}
 use lib.ListN.{length, get_or, drop}
+use Rattle.std.specs.Prelude.{Result, Ok, Err}
 use Rattle.format.specs.Answer.{if, Answer, refused, BadValue, NoField}
+use Rattle.format.specs.Refusals.{number_of, detail_of}
+use Rattle.format.specs.declared.refusal.Refusal.{Refusal}
 use Rattle.format.specs.Tree.{Ty, Tys, Val, Vals, val_kind, fields_in}
 use Rattle.format.specs.Sheet.{field_count, val_count, ty_words}
 use Rattle.format.specs.TypeSheet as type_sheets
@@ -19,7 +22,7 @@ use Rattle.format.specs.Encode.{vals_bytes, fits_all, fine}
 use Rattle.format.specs.Calls.{over}
 use Rattle.format.specs.Fields.{put}
 use Rattle.format.specs.Spans.{first_tys, field_type, with_record, with_next}
-use Rattle.format.proofs.Tests.{eqb_test, eqb_yes, eqb_no, Test, holds, fails}
+use Rattle.format.proofs.Tests.{eqb_test, Test, holds, fails}
 use Rattle.format.proofs.KindLaws.{is_record_lem}
 use Rattle.format.proofs.TypeLaws as types
 use Rattle.format.proofs.TypePlaces as type_places
@@ -30,15 +33,13 @@ use Rattle.format.proofs.ValuePlaces as value_places
 use Rattle.format.proofs.ValuePlaces.{ValueIn, ValuesIn}
 use Rattle.format.proofs.SplitLaws.{first_count}
 use Rattle.fit.specs.declared.Fitted.{Fitted}
-use Rattle.fit.specs.declared.Fitted.TheVariants.{Fits, Refused}
 use Rattle.fit.specs.Fit as fit
-use Rattle.fit.specs.Fit.{FitFields, Says}
-use Rattle.fit.proofs.Steps.{brief_short}
-use Rattle.key.specs.Spanning.{is_record, FirstWords, has_next}
+use Rattle.fit.specs.Fit.{FitFields, Says, Brief}
+use Rattle.key.specs.Records.{is_record, FirstWords, has_next}
 use Rattle.key.specs.Firsts.{Firsts}
 use Rattle.key.proofs.SpanLaws.{place_at, spans, first_nest, next_span}
 use Rattle.key.proofs.CallLaws.{some_words, another, record_type, count_word}
-use Rattle.key.proofs.ValueLaws.{no_value, its_value, it_is, it_stands}
+use Rattle.key.proofs.ValueLaws.{its_value, it_is, it_stands}
 
 -- what is put at a buffer's beginning stands over it
 pub put_over : (out x : List ℕ) → put out 0 x ≡ over x out
@@ -56,10 +57,7 @@ its_fields none e = absurd (let z : ◌≡◌ {A = ℕ} 0 1 = cc in omega arith)
 its_fields (some v) e = (fields_in v, ap some (is_record_lem v (eqb-true (val_kind v) 5 e)))
 
 module _ (words pool : List ℕ) {b : Bool} (said : b ≡ is_some (value_of words pool)) where
-  pub no_sheet : not b ≡ true → false ≡ is_record (value_of words pool)
-  no_sheet h = rw (no_value words pool (sym said ∙ not-true b h)) refl
-
-  module _ (yes : not b ≡ false) where
+  module _ (yes : b ≡ true) where
     here : (0 < length words) × (get_or words 0 0 ≡ val_kind (its_value words pool said yes))
     here = value_places.kind_is words pool 0 0 (length words) (length pool) (its_value words pool said yes) (it_stands words pool said yes)
 
@@ -85,20 +83,14 @@ module _ (words pool : List ℕ) {vs : Vals} (is : value_of words pool ≡ some 
 
 -- ---- the field behind
 
-pub no_next : (ty words : List ℕ) → (get_or ty 0 0 ≡ 5 → ⊥) → false ≡ has_next ty words
-no_next ty words h = rw (eqb_no (get_or ty 0 0) 5 h)
-
-pub next_is : (ty words : List ℕ) (n : ℕ) → get_or ty 0 0 ≡ 5 → n ≡ get_or ty 1 0 → ltb (get_or words 1 0) n ≡ has_next ty words
-next_is ty words n h e = rw (eqb_yes (get_or ty 0 0) 5 h, e)
-
 -- the sheets passed their tests: a type, and a record
-module _ (ty words pool : List ℕ) {b : Bool} (said : b ≡ is_some (type_of ty)) (yes : not b ≡ false) where
+module _ (ty words pool : List ℕ) {b : Bool} (said : b ≡ is_some (type_of ty)) (yes : b ≡ true) where
   pub its_type : (t : Ty) × (type_of ty ≡ some t)
-  its_type = types.some_of (type_of ty) (sym said ∙ not-false b yes)
+  its_type = types.some_of (type_of ty) (sym said ∙ yes)
 
-  module _ {q : Bool} (first : q ≡ is_record (value_of words pool)) (record_yes : not q ≡ false) where
+  module _ {q : Bool} (first : q ≡ is_record (value_of words pool)) (record_yes : q ≡ true) where
     pub its_first : (vs : Vals) × (value_of words pool ≡ some (Val.Record vs))
-    its_first = its_fields (value_of words pool) (sym first ∙ not-false q record_yes)
+    its_first = its_fields (value_of words pool) (sym first ∙ record_yes)
 
     pub first_words : FirstWords ty words
     first_words = record { kind_word = some_words ty said yes; type_count = λ k. count_word ty said yes k; value_count = (count_in words pool its_first.1).0 }
@@ -108,8 +100,8 @@ module _ (ty words pool : List ℕ) {b : Bool} (said : b ≡ is_some (type_of ty
       count = (count_in words pool its_first.1).1
 
       -- no field behind them
-      pub no_field : {A : Type 0} (f : Tys → Ty → Answer A) → not n ≡ true → with_next its_type.0 (val_count its_first.0) f ≡ refused NoField 0
-      no_field f h = go (eqb (get_or ty 0 0) 5) (eqb_test (get_or ty 0 0) 5) (sym next ∙ not-true n h)
+      pub no_field : {A : Type 0} (f : Tys → Ty → Answer A) → n ≡ false → with_next its_type.0 (val_count its_first.0) f ≡ refused NoField 0
+      no_field f h = go (eqb (get_or ty 0 0) 5) (eqb_test (get_or ty 0 0) 5) (sym next ∙ h)
         where
           go : (e : Bool) → Test (get_or ty 0 0 ≡ 5) (get_or ty 0 0 ≡ 5 → ⊥) e → if e (ltb (get_or words 1 0) (get_or ty 1 0)) false ≡ false
               → with_next its_type.0 (val_count its_first.0) f ≡ refused NoField 0
@@ -123,8 +115,8 @@ module _ (ty words pool : List ℕ) {b : Bool} (said : b ≡ is_some (type_of ty
               let is : its_type.0 ≡ t.0 = cc (sym its_type.1 ∙ t.1) in
               rw is ((no_record t.0 t.2).fields _)
 
-      pub the_firsts : not n ≡ false → Firsts ty words pool
-      the_firsts h = go (eqb (get_or ty 0 0) 5) (eqb_test (get_or ty 0 0) 5) (sym next ∙ not-false n h)
+      pub the_firsts : n ≡ true → Firsts ty words pool
+      the_firsts h = go (eqb (get_or ty 0 0) 5) (eqb_test (get_or ty 0 0) 5) (sym next ∙ h)
         where
           go : (e : Bool) → Test (get_or ty 0 0 ≡ 5) (get_or ty 0 0 ≡ 5 → ⊥) e → if e (ltb (get_or words 1 0) (get_or ty 1 0)) false ≡ true → Firsts ty words pool
           go _ (fails k) z = absurd (let y : ◌≡◌ {A = ℕ} 0 1 = cc in omega arith)
@@ -178,19 +170,20 @@ module _ {ty words pool : List ℕ} (a : Firsts ty words pool) where
   k_row = let s = sheet words pool a.first_is in record { ts = first_tys k a.ts; vs = a.vs; e = place_at k a.ts; f = length words; g = length pool; here = row; few = s.long; small = s.large }
 
   -- what judging them says
-  module _ {asked : Bool} {r : Fitted} (f : FitFields ty words pool 2 2 0 (get_or words 1 0) 0 asked r) where
-    first_says : (o : Fitted) → r ≡ o → Says (fits_all (first_tys k a.ts) 0 a.vs) asked (place_at k a.ts) (length words) (length pool) (length (vals_bytes 0 a.vs)) o
-    first_says o y = rw y at (f.says (first_tys k a.ts) a.vs (place_at k a.ts) (length words) (length pool) row)
+  module _ {asked : Bool} where
+    first_says : {o : Result Fitted Refusal} → FitFields ty words pool 2 2 0 (get_or words 1 0) 0 asked o
+        → Says (fits_all (first_tys k a.ts) 0 a.vs) asked (place_at k a.ts) (length words) (length pool) (length (vals_bytes 0 a.vs)) o
+    first_says f = f.says (first_tys k a.ts) a.vs (place_at k a.ts) (length words) (length pool) row
 
-    pub first_refused : {n d : ℕ} → r ≡ Refused n d → fits_all (first_tys k a.ts) 0 a.vs ≡ refused n d
-    first_refused {n} {d} y = sym (first_says (Refused n d) y).answer
+    pub first_refused : {e : Refusal} → FitFields ty words pool 2 2 0 (get_or words 1 0) 0 asked (Err e) → fits_all (first_tys k a.ts) 0 a.vs ≡ refused (number_of e) (detail_of e)
+    first_refused f = sym (first_says f).answer
 
-    module _ {at w p n : ℕ} (y : r ≡ Fits at w p n) where
+    module _ {x : Fitted} (f : FitFields ty words pool 2 2 0 (get_or words 1 0) 0 asked (Ok x)) where
       pub first_fit : fits_all (first_tys k a.ts) 0 a.vs ≡ fine
-      first_fit = sym (first_says (Fits at w p n) y).answer
+      first_fit = sym (first_says f).answer
 
-      pub place : asked ≡ true → at ≡ place_at k a.ts
-      place q = (first_says (Fits at w p n) y).ends.0 q
+      pub place : asked ≡ true → x.at ≡ place_at k a.ts
+      place q = (first_says f).ends.0 q
 
-      pub first_long : (n ≡ length (vals_bytes 0 a.vs)) × (n < 2 ^ 32)
-      first_long = ((first_says (Fits at w p n) y).ends.3, rw y at (brief_short words pool 2 0 r k_row.few k_row.small f.brief))
+      pub first_long : (x.len ≡ length (vals_bytes 0 a.vs)) × (x.len < 2 ^ 32)
+      first_long = let b : Brief words pool 2 0 (Ok x) = f.brief in ((first_says f).ends.3, omega (arith, b.1, b.3, b.4, k_row.few, k_row.small))

@@ -1,4 +1,4 @@
--- Laws of passing over fields, of the splice, and of the three calls.
+-- Laws of passing over fields, of the splice, and of the calls.
 pub mod SpliceLaws
 pub mod PassLaws
 pub mod SpanLaws

@@ -2,15 +2,16 @@
 use mathlib.Core.Path.{◌≡◌, refl, ap, ◌∙◌}
 use mathlib.Core.List.{List, [], ◌∷◌}
 use Prim.Native.Nat.{ℕ}
+use Rattle.std.specs.Prelude.{Result}
 use Rattle.format.specs.Answer.{Answer}
 use Rattle.format.specs.Calls.{replace_call}
-use Rattle.format.specs.Lengths.{length_in, Leaves}
+use Rattle.format.specs.Refusals.{answered, Leaves}
 use Rattle.format.specs.Book.{Call, Seen, used_after, call_on, run_calls}
-use Rattle.format.specs.declared.Length.{Length}
+use Rattle.format.specs.declared.refusal.Refusal.{Refusal}
 use Rattle.format.proofs.Demand3.{begins, as_book}
 use Rattle.key.specs.Lists.{seen_by, Ran, ended, next, AsTheBook}
 
-one : (ty buffer : List ℕ) (used : ℕ) (c : Call) (r : Length) (buffer' : List ℕ) → Leaves (replace_call ty buffer used c.field c.words c.pool) r buffer'
+one : (ty buffer : List ℕ) (used : ℕ) (c : Call) (r : Result ℕ Refusal) (buffer' : List ℕ) → Leaves (replace_call ty buffer used c.field c.words c.pool) r buffer'
     → seen_by used r buffer' ≡ call_on ty buffer used c
 one ty buffer used c r buffer' h =
     let a = (replace_call ty buffer used c.field c.words c.pool).answer in
@@ -21,7 +22,7 @@ pub ran : (ty buffer : List ℕ) (used : ℕ) (cs : List Call) (l : List Seen) �
 unfolding run_calls
 ran ty buffer used [] l (ended _ _) = refl
 ran ty buffer used (c ∷ cs) _ (next _ _ _ _ r buffer' l h t) =
-    ap (λ (m : List Seen). seen_by used r buffer' ∷ m) (ran ty buffer' (used_after used (length_in r)) cs l t)
+    ap (λ (m : List Seen). seen_by used r buffer' ∷ m) (ran ty buffer' (used_after used (answered r)) cs l t)
     ∙ ap (λ (s : Seen). s ∷ run_calls ty s.buffer s.used cs) (one ty buffer used c r buffer' h)
 
 -- so its answers, used lengths and buffers are the book's

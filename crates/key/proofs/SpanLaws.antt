@@ -4,6 +4,7 @@ use mathlib.Core.List.{List, [], ◌∷◌}
 use Prim.Native.Nat.{ℕ, zero, suc, ◌+◌, ◌-◌, ◌≤◌, ◌<◌}
 use native.Mathlib.Omega.{arith}
 use lib.ListN.{length, drop, length-append, length-drop}
+use Rattle.std.specs.Prelude.{Result, Ok, Err}
 use Rattle.format.specs.Tree.{Ty, Tys, Val, Vals}
 use Rattle.format.specs.Sheet.{field_count, val_count, ty_words, tys_words}
 use Rattle.format.specs.TypeSheet.{max_groups, nesting, nestings, Single, Singles}
@@ -19,12 +20,9 @@ use Rattle.format.proofs.CanonLaws.{canon}
 use Rattle.format.proofs.KeyRound.{key_canon, bare_canon}
 use Rattle.format.proofs.SplitLaws.{rest_tys, join_vals, rest_next, first_count, rest_count, split_words, field_join, first_bytes_lem, bad_first, bad_rest, left_over, good_key}
 use Rattle.read.specs.Walk.{FieldsAt, TypeAt}
-use Rattle.format.specs.declared.Length.{Length}
+use Rattle.format.specs.Refusals.{number_of, detail_of}
+use Rattle.format.specs.declared.refusal.Refusal.{Refusal}
 use Rattle.key.specs.declared.passing.Passed.{Passed}
-use Rattle.key.specs.declared.passing.Passed.TheVariants.{To, Refused}
-use Rattle.key.specs.declared.passing.Rest.{Rest}
-use Rattle.key.specs.declared.passing.Rest.TheVariants as rest
-use Rattle.key.specs.declared.passing.Field.TheVariants as field
 use Rattle.key.specs.Passing.{Says, to, not, PassesValue, PassesFields, EndSays, Ends, SplitSays, Splits, FindSays, Finds}
 
 -- ---- the types of the parts
@@ -82,40 +80,41 @@ first_fields {ty} {n} {k} l f = record {
 
 -- ---- what was passed first
 
-place_of : {bytes : List ℕ} {x a j : ℕ} {A : Type 0} {m : Decoded A} → Says bytes x (To a j) m → a ≡ x
-place_of (to h) = refl
+module _ {bytes : List ℕ} {x : ℕ} {A : Type 0} where
+  place_of : {p : Passed} {m : Decoded A} → Says bytes x (Ok p) m → p.at ≡ x
+  place_of (to e h) = e
 
--- it was read, up to j
-read_to : {bytes : List ℕ} {x a j : ℕ} {A : Type 0} {m : Decoded A} → Says bytes x (To a j) m → (u : A) × (i : ℕ) × (m ≡ Decoded.got u (drop j bytes) i) × (j ≤ length bytes)
-read_to (to {a = u} {k = i} h) = (u, i, refl, h)
+  -- it was read, up to the next place
+  read_to : {p : Passed} {m : Decoded A} → Says bytes x (Ok p) m → (u : A) × (i : ℕ) × (m ≡ Decoded.got u (drop p.next bytes) i) × (p.next ≤ length bytes)
+  read_to (to {a = u} {k = i} e h) = (u, i, refl, h)
 
--- it was refused
-read_bad : {bytes : List ℕ} {x c d : ℕ} {A : Type 0} {m : Decoded A} → Says bytes x (Refused c d) m → (i : ℕ) × (m ≡ Decoded.bad c d i)
-read_bad (not {k = i}) = (i, refl)
+  -- it was refused
+  read_bad : {f : Refusal} {m : Decoded A} → Says bytes x (Err f) m → (i : ℕ) × (m ≡ Decoded.bad (number_of f) (detail_of f) i)
+  read_bad (not {k = i}) = (i, refl)
 
 module _ {ty : List ℕ} {n : ℕ} {key : List ℕ} {k : ℕ} (kn : k ≤ n) where
   -- the first k fields of any n types there
-  first_says : (r : Passed) → PassesFields ty 2 k key 0 r → (ts : Tys) (e : ℕ) → TypesIn ty 2 ts e → n ≡ field_count ts → nestings ts ≤ max_groups → Says key (place_at k ts) r (decode_bare (first_tys k ts) key)
-  first_says r p ts e h c d = p.pass (first_tys k ts) (place_at k ts) (spans ty ts e k h).0 (sym (first_count k ts (omega arith))) (omega (arith, first_nest k ts))
+  first_says : {r : Result Passed Refusal} → PassesFields ty 2 k key 0 r → (ts : Tys) (e : ℕ) → TypesIn ty 2 ts e → n ≡ field_count ts → nestings ts ≤ max_groups
+      → Says key (place_at k ts) r (decode_bare (first_tys k ts) key)
+  first_says p ts e h c d = p.pass (first_tys k ts) (place_at k ts) (spans ty ts e k h).0 (sym (first_count k ts (omega arith))) (omega (arith, first_nest k ts))
 
-  pub split_bad : {w : Passed} → PassesFields ty 2 k key 0 w → {c d : ℕ} → w ≡ Refused c d → Splits ty n key k (Length.Refused c d)
-  split_bad p {c} {d} y = record {
+  pub split_bad : {f : Refusal} → PassesFields ty 2 k key 0 (Err f) → Splits ty n key k (Err f)
+  split_bad {f} p = record {
     splits = λ ts e h q dp ab.
-        let s = read_bad (first_says (Refused c d) (rw y at p) ts e h q dp) in
-        rw (bad_first k ts key c d s.0 s.1) refl;
+        let s = read_bad (first_says p ts e h q dp) in
+        rw (bad_first k ts key (number_of f) (detail_of f) s.0 s.1) refl;
   }
 
-  module _ {w : Passed} (pw : PassesFields ty 2 k key 0 w) {a start : ℕ} (yw : w ≡ To a start) where
-    p : PassesFields ty 2 k key 0 (To a start)
-    p = rw yw at pw
+  module _ {first : Passed} (p : PassesFields ty 2 k key 0 (Ok first)) where
+    abbrev start : ℕ
+    start = first.next
 
     pub start_in : FieldsAt ty 2 n → start ≤ length key
-    start_in f = (read_to (first_says (To a start) p f.ts f.end f.here f.count f.deep)).3
+    start_in f = (read_to (first_says p f.ts f.end f.here f.count f.deep)).3
 
-    pub rest_fields : FieldsAt ty 2 n → FieldsAt ty a (n - k)
+    pub rest_fields : FieldsAt ty 2 n → FieldsAt ty first.at (n - k)
     rest_fields f =
-        let s = first_says (To a start) p f.ts f.end f.here f.count f.deep in
-        let ea = place_of s in
+        let ea = place_of (first_says p f.ts f.end f.here f.count f.deep) in
         record {
           ts = rest_tys k f.ts;
           end = f.end;
@@ -125,36 +124,36 @@ module _ {ty : List ℕ} {n : ℕ} {key : List ℕ} {k : ℕ} (kn : k ≤ n) whe
         }
 
     -- the rest's end, of any n types there
-    rest_says : (q : Rest) → Ends ty a (n - k) key start q → (ts : Tys) (e : ℕ) → TypesIn ty 2 ts e → n ≡ field_count ts → nestings ts ≤ max_groups → EndSays q (whole (decode_bare (rest_tys k ts) (drop start key)))
-    rest_says q z ts e h c d =
-        let s = first_says (To a start) p ts e h c d in
-        let ea = place_of s in
+    rest_says : {q : Result Unit Refusal} → Ends ty first.at (n - k) key start q → (ts : Tys) (e : ℕ) → TypesIn ty 2 ts e → n ≡ field_count ts → nestings ts ≤ max_groups
+        → EndSays q (whole (decode_bare (rest_tys k ts) (drop start key)))
+    rest_says z ts e h c d =
+        let ea = place_of (first_says p ts e h c d) in
         z.end (rest_tys k ts) e (rw ea (spans ty ts e k h).1) (sym (rest_count k ts (omega arith) ∙ ap (λ (m : ℕ). m - k) (sym c))) (omega (arith, rest_nest k ts))
 
-    pub split_rest_bad : {x : Rest} → Ends ty a (n - k) key start x → {c d : ℕ} → x ≡ rest.Refused c d → Splits ty n key k (Length.Refused c d)
+    pub split_rest_bad : {f : Refusal} → Ends ty first.at (n - k) key start (Err f) → Splits ty n key k (Err f)
     unfolding whole
-    split_rest_bad zx {c} {d} yx = record {
+    split_rest_bad {f} z = record {
       splits = λ ts e h q dp ab.
-          let s = read_to (first_says (To a start) p ts e h q dp) in
-          go ts s.0 s.1 s.2 (decode_bare (rest_tys k ts) (drop start key)) refl (rest_says (rest.Refused c d) (rw yx at zx) ts e h q dp);
+          let s = read_to (first_says p ts e h q dp) in
+          go ts s.0 s.1 s.2 (decode_bare (rest_tys k ts) (drop start key)) refl (rest_says z ts e h q dp);
     }
       where
         go : (ts : Tys) (vs : Vals) (i : ℕ) → decode_bare (first_tys k ts) key ≡ Decoded.got vs (drop start key) i → (m : Decoded Vals)
-            → decode_bare (rest_tys k ts) (drop start key) ≡ m → EndSays (rest.Refused c d) (whole m) → SplitSays key k (Length.Refused c d) (decode_key (Ty.Record ts) key)
-        go ts vs i f (Decoded.got us [] j) g y = absurd (let z : ◌≡◌ {A = ℕ} 0 1 = cc in omega arith)
-        go ts vs i f (Decoded.got us (b ∷ r) j) g y = rw (left_over k ts key vs start i f us b r j g) (cc)
-        go ts vs i f (Decoded.bad c' d' j) g y = rw (bad_rest k ts key vs start i f c' d' j g) (cc)
+            → decode_bare (rest_tys k ts) (drop start key) ≡ m → EndSays (Err f) (whole m) → SplitSays key k (Err f) (decode_key (Ty.Record ts) key)
+        go ts vs i l (Decoded.got us [] j) g y = absurd (let z : ◌≡◌ {A = ℕ} 0 1 = cc in omega arith)
+        go ts vs i l (Decoded.got us (b ∷ r) j) g y = rw (left_over k ts key vs start i l us b r j g) (cc)
+        go ts vs i l (Decoded.bad c' d' j) g y = rw (bad_rest k ts key vs start i l c' d' j g) (cc)
 
-    pub split_good : {x : Rest} → Ends ty a (n - k) key start x → x ≡ rest.Whole → Splits ty n key k (Length.Done start)
+    pub split_good : Ends ty first.at (n - k) key start (Ok tt) → Splits ty n key k (Ok start)
     unfolding whole
-    split_good zx yx = record {
+    split_good z = record {
       splits = λ ts e h q dp ab.
-          let s = read_to (first_says (To a start) p ts e h q dp) in
-          go ts s.0 s.1 s.2 s.3 (omega arith) ab (decode_bare (rest_tys k ts) (drop start key)) refl (rest_says rest.Whole (rw yx at zx) ts e h q dp);
+          let s = read_to (first_says p ts e h q dp) in
+          go ts s.0 s.1 s.2 s.3 (omega arith) ab (decode_bare (rest_tys k ts) (drop start key)) refl (rest_says z ts e h q dp);
     }
       where
         go : (ts : Tys) (vs : Vals) (i : ℕ) → decode_bare (first_tys k ts) key ≡ Decoded.got vs (drop start key) i → start ≤ length key → k ≤ field_count ts → AllBytes key
-            → (m : Decoded Vals) → decode_bare (rest_tys k ts) (drop start key) ≡ m → EndSays rest.Whole (whole m) → SplitSays key k (Length.Done start) (decode_key (Ty.Record ts) key)
+            → (m : Decoded Vals) → decode_bare (rest_tys k ts) (drop start key) ≡ m → EndSays (Ok tt) (whole m) → SplitSays key k (Ok start) (decode_key (Ty.Record ts) key)
         go ts vs i f l kc ab (Decoded.got us [] j) g y = rw (good_key k ts key vs start i f us j g) (start, refl, l, (first_bytes_lem k ts vs key start i kc ab l f us).2)
         go ts vs i f l kc ab (Decoded.got us (b ∷ r) j) g y = absurd (let z : ◌≡◌ {A = ℕ} 0 1 = cc in omega arith)
         go ts vs i f l kc ab (Decoded.bad c d j) g y = absurd (let z : ◌≡◌ {A = ℕ} 0 1 = cc in omega arith)
@@ -166,130 +165,133 @@ all_drop zero l h = h
 all_drop (suc n) [] h = tt
 all_drop (suc n) (x ∷ l) h = all_drop n l h.1
 
-pub find_bad : {ty : List ℕ} {n : ℕ} {key : List ℕ} {k : ℕ} → k < n → {w : Passed} → PassesFields ty 2 k key 0 w → {c d : ℕ} → w ≡ Refused c d
-    → Finds ty n key k (field.Refused c d)
-find_bad {n = n} {key = key} {k = k} kn p {c} {d} y = record {
-  finds = λ ts e h q dp ab.
-      let s = read_bad (first_says {n = n} (omega arith) (Refused c d) (rw y at p) ts e h q dp) in
-      rw (bad_first k ts key c d s.0 s.1) refl;
-}
-
-module _ {ty : List ℕ} {n : ℕ} {key : List ℕ} {k : ℕ} (kn : k < n) {w : Passed} (pw : PassesFields ty 2 k key 0 w) {a start : ℕ} (yw : w ≡ To a start) where
-  first : PassesFields ty 2 k key 0 (To a start)
-  first = rw yw at pw
-
-  -- the field's type stands there
-  field_span : (ts : Tys) (e : ℕ) → TypesIn ty 2 ts e → n ≡ field_count ts → nestings ts ≤ max_groups
-      → TypeIn ty a (field_type k ts) (a + length (ty_words (field_type k ts))) × TypesIn ty (a + length (ty_words (field_type k ts))) (rest_tys (suc k) ts) e × (nesting (field_type k ts) ≤ max_groups)
-  field_span ts e h c d = rw (place_of (first_says {n = n} (omega arith) (To a start) first ts e h c d)) (next_span ty ts e k h (omega arith) d)
-
-  pub start_of : FieldsAt ty 2 n → start ≤ length key
-  start_of f = start_in {n = n} (omega arith) pw yw f
-
-  pub field_type_lem : FieldsAt ty 2 n → TypeAt ty a
-  field_type_lem f =
-      let s = field_span f.ts f.end f.here f.count f.deep in
-      record { t = field_type k f.ts; end = a + length (ty_words (field_type k f.ts)); here = s.0; deep = s.2 }
-
-  -- what the key's decoding says, by the field and the fields behind it
-  split_field : (ts : Tys) → n ≡ field_count ts → decode_bare (rest_tys k ts) (drop start key) ≡ both (decode (field_type k ts) 0 (drop start key)) (λ left. decode_bare (rest_tys (suc k) ts) left) Vals.AddVal
-  unfolding decode_bare
-  split_field ts c = rw (rest_next k ts (omega arith))
-
-  field_says : (r : Passed) → PassesValue ty a key start r → (ts : Tys) (e : ℕ) → TypesIn ty 2 ts e → n ≡ field_count ts → nestings ts ≤ max_groups
-      → Says key (a + length (ty_words (field_type k ts))) r (decode (field_type k ts) 0 (drop start key))
-  field_says r v ts e h c d = let s = field_span ts e h c d in v.pass (field_type k ts) (a + length (ty_words (field_type k ts))) s.0 s.2
-
-  pub find_field_bad : {x : Passed} → PassesValue ty a key start x → {c d : ℕ} → x ≡ Refused c d → Finds ty n key k (field.Refused c d)
-  find_field_bad vx {c} {d} yx = record {
+module _ {ty : List ℕ} {n : ℕ} {key : List ℕ} {k : ℕ} (kn : k < n) where
+  pub find_bad : {f : Refusal} → PassesFields ty 2 k key 0 (Err f) → Finds ty n key k (Err f)
+  find_bad {f} p = record {
     finds = λ ts e h q dp ab.
-        let s = read_to (first_says {n = n} (omega arith) (To a start) first ts e h q dp) in
-        let b = read_bad (field_says (Refused c d) (rw yx at vx) ts e h q dp) in
-        rw (bad_rest k ts key s.0 start s.1 s.2 c d b.0 (split_field ts q ∙ ap (λ (m : Decoded Val). both m (λ left. decode_bare (rest_tys (suc k) ts) left) Vals.AddVal) b.1)) refl;
+        let s = read_bad (first_says {n = n} (omega arith) p ts e h q dp) in
+        rw (bad_first k ts key (number_of f) (detail_of f) s.0 s.1) refl;
   }
 
-  module _ {x : Passed} (vx : PassesValue ty a key start x) {a2 end : ℕ} (yx : x ≡ To a2 end) where
-    v : PassesValue ty a key start (To a2 end)
-    v = rw yx at vx
+  module _ {first : Passed} (p : PassesFields ty 2 k key 0 (Ok first)) where
+    abbrev begin : ℕ
+    begin = first.next
 
-    pub field_end_in : FieldsAt ty 2 n → end ≤ length key
-    field_end_in f = (read_to (field_says (To a2 end) v f.ts f.end f.here f.count f.deep)).3
+    -- the place behind the field's type
+    abbrev behind : Tys → ℕ
+    behind ts = first.at + length (ty_words (field_type k ts))
 
-    pub behind_fields : FieldsAt ty 2 n → FieldsAt ty a2 (n - k - 1)
-    behind_fields f =
+    -- the field's type stands there
+    field_span : (ts : Tys) (e : ℕ) → TypesIn ty 2 ts e → n ≡ field_count ts → nestings ts ≤ max_groups
+        → TypeIn ty first.at (field_type k ts) (behind ts) × TypesIn ty (behind ts) (rest_tys (suc k) ts) e × (nesting (field_type k ts) ≤ max_groups)
+    field_span ts e h c d = rw (place_of (first_says {n = n} (omega arith) p ts e h c d)) (next_span ty ts e k h (omega arith) d)
+
+    pub start_of : FieldsAt ty 2 n → begin ≤ length key
+    start_of f = start_in {n = n} (omega arith) p f
+
+    pub field_type_lem : FieldsAt ty 2 n → TypeAt ty first.at
+    field_type_lem f =
         let s = field_span f.ts f.end f.here f.count f.deep in
-        let ea = place_of (field_says (To a2 end) v f.ts f.end f.here f.count f.deep) in
-        let cn : n - k - 1 ≡ field_count (rest_tys (suc k) f.ts) = omega (arith, rest_count (suc k) f.ts (omega (arith, f.count)), f.count) in
-        record { ts = rest_tys (suc k) f.ts; end = f.end; here = rw ea s.1; count = cn; deep = omega (arith, rest_nest (suc k) f.ts, f.deep) }
+        record { t = field_type k f.ts; end = behind f.ts; here = s.0; deep = s.2 }
 
-    behind_says : (q : Rest) → Ends ty a2 (n - k - 1) key end q → (ts : Tys) (e : ℕ) → TypesIn ty 2 ts e → n ≡ field_count ts → nestings ts ≤ max_groups
-        → EndSays q (whole (decode_bare (rest_tys (suc k) ts) (drop end key)))
-    behind_says q z ts e h c d =
-        let s = field_span ts e h c d in
-        let ea = place_of (field_says (To a2 end) v ts e h c d) in
-        let cn : n - k - 1 ≡ field_count (rest_tys (suc k) ts) = omega (arith, rest_count (suc k) ts (omega arith)) in
-        z.end (rest_tys (suc k) ts) e (rw ea s.1) cn (omega (arith, rest_nest (suc k) ts))
+    -- what the key's decoding says, by the field and the fields behind it
+    abbrev joined : Tys → Decoded Val → Decoded Vals
+    joined ts m = both m (λ left. decode_bare (rest_tys (suc k) ts) left) Vals.AddVal
 
-    pub find_rest_bad : {o : Rest} → Ends ty a2 (n - k - 1) key end o → {c d : ℕ} → o ≡ rest.Refused c d → Finds ty n key k (field.Refused c d)
-    unfolding whole
-    find_rest_bad zo {c} {d} yo = record {
+    split_field : (ts : Tys) → n ≡ field_count ts → decode_bare (rest_tys k ts) (drop begin key) ≡ joined ts (decode (field_type k ts) 0 (drop begin key))
+    unfolding decode_bare
+    split_field ts c = rw (rest_next k ts (omega arith))
+
+    field_says : {r : Result Passed Refusal} → PassesValue ty first.at key begin r → (ts : Tys) (e : ℕ) → TypesIn ty 2 ts e → n ≡ field_count ts → nestings ts ≤ max_groups
+        → Says key (behind ts) r (decode (field_type k ts) 0 (drop begin key))
+    field_says v ts e h c d = let s = field_span ts e h c d in v.pass (field_type k ts) (behind ts) s.0 s.2
+
+    pub find_field_bad : {f : Refusal} → PassesValue ty first.at key begin (Err f) → Finds ty n key k (Err f)
+    find_field_bad {f} v = record {
       finds = λ ts e h q dp ab.
-          let s = read_to (first_says {n = n} (omega arith) (To a start) first ts e h q dp) in
-          let f = read_to (field_says (To a2 end) v ts e h q dp) in
-          go ts s.0 s.1 s.2 f.0 f.1
-          (split_field ts q ∙ ap (λ (m : Decoded Val). both m (λ left. decode_bare (rest_tys (suc k) ts) left) Vals.AddVal) f.2)
-          (decode_bare (rest_tys (suc k) ts) (drop end key)) refl (behind_says (rest.Refused c d) (rw yo at zo) ts e h q dp);
+          let s = read_to (first_says {n = n} (omega arith) p ts e h q dp) in
+          let b = read_bad (field_says v ts e h q dp) in
+          rw (bad_rest k ts key s.0 begin s.1 s.2 (number_of f) (detail_of f) b.0 (split_field ts q ∙ ap (joined ts) b.1)) refl;
     }
-      where
-        go : (ts : Tys) (vs : Vals) (i : ℕ) → decode_bare (first_tys k ts) key ≡ Decoded.got vs (drop start key) i → (u : Val) (i2 : ℕ)
-            → decode_bare (rest_tys k ts) (drop start key) ≡ both (Decoded.got u (drop end key) i2) (λ left. decode_bare (rest_tys (suc k) ts) left) Vals.AddVal
-            → (m : Decoded Vals) → decode_bare (rest_tys (suc k) ts) (drop end key) ≡ m → EndSays (rest.Refused c d) (whole m) → FindSays ty ts key k (field.Refused c d) (decode_key (Ty.Record ts) key)
-        go ts vs i f u i2 g (Decoded.got us [] j) m y = absurd (let z : ◌≡◌ {A = ℕ} 0 1 = cc in omega arith)
-        go ts vs i f u i2 g (Decoded.got us (b ∷ r) j) m y = rw (left_over k ts key vs start i f (Vals.AddVal u us) b r (i2 + j) (g ∙ rw m refl)) (cc)
-        go ts vs i f u i2 g (Decoded.bad c' d' j) m y = rw (bad_rest k ts key vs start i f c' d' (i2 + j) (g ∙ rw m refl)) (cc)
 
-    pub find_good : {o : Rest} → Ends ty a2 (n - k - 1) key end o → o ≡ rest.Whole → Finds ty n key k (field.At a start end)
-    unfolding whole
-    find_good zo yo = record {
-      finds = λ ts e h q dp ab.
-          let s = read_to (first_says {n = n} (omega arith) (To a start) first ts e h q dp) in
-          let f = read_to (field_says (To a2 end) v ts e h q dp) in
-          let sp = field_span ts e h q dp in
-          go ts s.0 s.1 s.2 s.3 f.0 f.1 f.2 f.3
-          (split_field ts q ∙ ap (λ (m : Decoded Val). both m (λ left. decode_bare (rest_tys (suc k) ts) left) Vals.AddVal) f.2) (omega arith) ab sp.0 sp.2
-          (decode_bare (rest_tys (suc k) ts) (drop end key)) refl (behind_says rest.Whole (rw yo at zo) ts e h q dp);
-    }
-      where
-        go : (ts : Tys) (vs : Vals) (i : ℕ) → decode_bare (first_tys k ts) key ≡ Decoded.got vs (drop start key) i → start ≤ length key → (u : Val) (i2 : ℕ)
-            → decode (field_type k ts) 0 (drop start key) ≡ Decoded.got u (drop end key) i2 → end ≤ length key
-            → decode_bare (rest_tys k ts) (drop start key) ≡ both (Decoded.got u (drop end key) i2) (λ left. decode_bare (rest_tys (suc k) ts) left) Vals.AddVal
-            → k < field_count ts → AllBytes key → TypeIn ty a (field_type k ts) (a + length (ty_words (field_type k ts))) → nesting (field_type k ts) ≤ max_groups
-            → (m : Decoded Vals) → decode_bare (rest_tys (suc k) ts) (drop end key) ≡ m → EndSays rest.Whole (whole m) → FindSays ty ts key k (field.At a start end) (decode_key (Ty.Record ts) key)
-        go ts vs i f l u i2 du le g kc ab ti nt (Decoded.got us [] j) m y =
-            let gk = good_key k ts key vs start i f (Vals.AddVal u us) (i2 + j) (g ∙ rw m refl) in
-            let kb = key_canon (Ty.Record ts) key (Val.Record (join_vals vs (Vals.AddVal u us))) [] (i + (i2 + j)) ab gk in
-            let kp = key_parts ts (Val.Record (join_vals vs (Vals.AddVal u us))) key kb.bytes in
-            let fb = first_bytes_lem k ts vs key start i (omega arith) ab l f (Vals.AddVal u us) in
-            let cn : val_count vs ≡ k = sym (fits_count (first_tys k ts) 0 vs (bare_canon (first_tys k ts) key vs (drop start key) i ab f).fit) ∙ first_count k ts (omega arith) in
-            let fj = field_join k vs us u cn in
-            let cu = canon (field_type k ts) 0 (drop start key) u (drop end key) i2 (all_drop start key ab) du in
-            let len : end ≡ start + length (val_bytes 0 u) = omega (arith, ap length cu.bytes, length-append (val_bytes 0 u) (drop end key), length-drop start key, length-drop end key) in
-            rw gk (
-              a,
-              start,
-              end,
-              refl,
-              record {
-                behind = a + length (ty_words (field_type k ts));
-                typed = ti;
-                deep = nt;
-                starts = fb.1;
-                ends = len ∙ (let w : length (val_bytes 0 u) ≡ length (val_bytes 0 (field_at k (join_vals vs (Vals.AddVal u us)))) = ap (λ (x : Val). length (val_bytes 0 x)) (sym fj) in omega (arith, fb.1));
-                within = le;
-                bytes = sym kp.2;
-                fit = kp.1;
-                inside = omega (arith, fits_count ts 0 (join_vals vs (Vals.AddVal u us)) kp.1);
-              },
-            )
-        go ts vs i f l u i2 du le g kc ab ti nt (Decoded.got us (b ∷ r) j) m y = absurd (let z : ◌≡◌ {A = ℕ} 0 1 = cc in omega arith)
-        go ts vs i f l u i2 du le g kc ab ti nt (Decoded.bad c d j) m y = absurd (let z : ◌≡◌ {A = ℕ} 0 1 = cc in omega arith)
+    module _ {own : Passed} (v : PassesValue ty first.at key begin (Ok own)) where
+      abbrev end : ℕ
+      end = own.next
+
+      pub field_end_in : FieldsAt ty 2 n → end ≤ length key
+      field_end_in f = (read_to (field_says v f.ts f.end f.here f.count f.deep)).3
+
+      pub behind_fields : FieldsAt ty 2 n → FieldsAt ty own.at (n - k - 1)
+      behind_fields f =
+          let s = field_span f.ts f.end f.here f.count f.deep in
+          let ea = place_of (field_says v f.ts f.end f.here f.count f.deep) in
+          let cn : n - k - 1 ≡ field_count (rest_tys (suc k) f.ts) = omega (arith, rest_count (suc k) f.ts (omega (arith, f.count)), f.count) in
+          record { ts = rest_tys (suc k) f.ts; end = f.end; here = rw ea s.1; count = cn; deep = omega (arith, rest_nest (suc k) f.ts, f.deep) }
+
+      behind_says : {q : Result Unit Refusal} → Ends ty own.at (n - k - 1) key end q → (ts : Tys) (e : ℕ) → TypesIn ty 2 ts e → n ≡ field_count ts → nestings ts ≤ max_groups
+          → EndSays q (whole (decode_bare (rest_tys (suc k) ts) (drop end key)))
+      behind_says z ts e h c d =
+          let s = field_span ts e h c d in
+          let ea = place_of (field_says v ts e h c d) in
+          let cn : n - k - 1 ≡ field_count (rest_tys (suc k) ts) = omega (arith, rest_count (suc k) ts (omega arith)) in
+          z.end (rest_tys (suc k) ts) e (rw ea s.1) cn (omega (arith, rest_nest (suc k) ts))
+
+      pub find_rest_bad : {f : Refusal} → Ends ty own.at (n - k - 1) key end (Err f) → Finds ty n key k (Err f)
+      unfolding whole
+      find_rest_bad {f} z = record {
+        finds = λ ts e h q dp ab.
+            let s = read_to (first_says {n = n} (omega arith) p ts e h q dp) in
+            let o = read_to (field_says v ts e h q dp) in
+            go ts s.0 s.1 s.2 o.0 o.1 (split_field ts q ∙ ap (joined ts) o.2) (decode_bare (rest_tys (suc k) ts) (drop end key)) refl (behind_says z ts e h q dp);
+      }
+        where
+          go : (ts : Tys) (vs : Vals) (i : ℕ) → decode_bare (first_tys k ts) key ≡ Decoded.got vs (drop begin key) i → (u : Val) (i2 : ℕ)
+              → decode_bare (rest_tys k ts) (drop begin key) ≡ joined ts (Decoded.got u (drop end key) i2)
+              → (m : Decoded Vals) → decode_bare (rest_tys (suc k) ts) (drop end key) ≡ m → EndSays (Err f) (whole m) → FindSays ty ts key k (Err f) (decode_key (Ty.Record ts) key)
+          go ts vs i l u i2 g (Decoded.got us [] j) m y = absurd (let z : ◌≡◌ {A = ℕ} 0 1 = cc in omega arith)
+          go ts vs i l u i2 g (Decoded.got us (b ∷ r) j) m y = rw (left_over k ts key vs begin i l (Vals.AddVal u us) b r (i2 + j) (g ∙ rw m refl)) (cc)
+          go ts vs i l u i2 g (Decoded.bad c' d' j) m y = rw (bad_rest k ts key vs begin i l c' d' (i2 + j) (g ∙ rw m refl)) (cc)
+
+      pub find_good : Ends ty own.at (n - k - 1) key end (Ok tt) → Finds ty n key k (Ok (record { at = first.at; start = begin; end = end }))
+      unfolding whole
+      find_good z = record {
+        finds = λ ts e h q dp ab.
+            let s = read_to (first_says {n = n} (omega arith) p ts e h q dp) in
+            let o = read_to (field_says v ts e h q dp) in
+            let sp = field_span ts e h q dp in
+            go ts s.0 s.1 s.2 s.3 o.0 o.1 o.2 o.3 (split_field ts q ∙ ap (joined ts) o.2) (omega arith) ab sp.0 sp.2
+            (decode_bare (rest_tys (suc k) ts) (drop end key)) refl (behind_says z ts e h q dp);
+      }
+        where
+          go : (ts : Tys) (vs : Vals) (i : ℕ) → decode_bare (first_tys k ts) key ≡ Decoded.got vs (drop begin key) i → begin ≤ length key → (u : Val) (i2 : ℕ)
+              → decode (field_type k ts) 0 (drop begin key) ≡ Decoded.got u (drop end key) i2 → end ≤ length key
+              → decode_bare (rest_tys k ts) (drop begin key) ≡ joined ts (Decoded.got u (drop end key) i2)
+              → k < field_count ts → AllBytes key → TypeIn ty first.at (field_type k ts) (behind ts) → nesting (field_type k ts) ≤ max_groups
+              → (m : Decoded Vals) → decode_bare (rest_tys (suc k) ts) (drop end key) ≡ m → EndSays (Ok tt) (whole m)
+              → FindSays ty ts key k (Ok (record { at = first.at; start = begin; end = end })) (decode_key (Ty.Record ts) key)
+          go ts vs i f l u i2 du le g kc ab ti nt (Decoded.got us [] j) m y =
+              let gk = good_key k ts key vs begin i f (Vals.AddVal u us) (i2 + j) (g ∙ rw m refl) in
+              let kb = key_canon (Ty.Record ts) key (Val.Record (join_vals vs (Vals.AddVal u us))) [] (i + (i2 + j)) ab gk in
+              let kp = key_parts ts (Val.Record (join_vals vs (Vals.AddVal u us))) key kb.bytes in
+              let fb = first_bytes_lem k ts vs key begin i (omega arith) ab l f (Vals.AddVal u us) in
+              let cn : val_count vs ≡ k = sym (fits_count (first_tys k ts) 0 vs (bare_canon (first_tys k ts) key vs (drop begin key) i ab f).fit) ∙ first_count k ts (omega arith) in
+              let fj = field_join k vs us u cn in
+              let cu = canon (field_type k ts) 0 (drop begin key) u (drop end key) i2 (all_drop begin key ab) du in
+              let len : end ≡ begin + length (val_bytes 0 u) = omega (arith, ap length cu.bytes, length-append (val_bytes 0 u) (drop end key), length-drop begin key, length-drop end key) in
+              rw gk (
+                record { at = first.at; start = begin; end = end },
+                refl,
+                record {
+                  behind = behind ts;
+                  typed = ti;
+                  deep = nt;
+                  starts = fb.1;
+                  ends = len ∙ (let w : length (val_bytes 0 u) ≡ length (val_bytes 0 (field_at k (join_vals vs (Vals.AddVal u us)))) = ap (λ (x : Val). length (val_bytes 0 x)) (sym fj) in omega (arith, fb.1));
+                  within = le;
+                  bytes = sym kp.2;
+                  fit = kp.1;
+                  inside = omega (arith, fits_count ts 0 (join_vals vs (Vals.AddVal u us)) kp.1);
+                },
+              )
+          go ts vs i f l u i2 du le g kc ab ti nt (Decoded.got us (b ∷ r) j) m y = absurd (let z : ◌≡◌ {A = ℕ} 0 1 = cc in omega arith)
+          go ts vs i f l u i2 du le g kc ab ti nt (Decoded.bad c d j) m y = absurd (let z : ◌≡◌ {A = ℕ} 0 1 = cc in omega arith)

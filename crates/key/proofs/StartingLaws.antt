@@ -1,16 +1,17 @@
 -- From what the steps of the prefix call found to what it answers and leaves: the next field's mark, the lengths of the ends, their bytes.
 use mathlib.Core.Path.{◌≡◌, refl, sym, ap, ap₂, ◌∙◌}
 use mathlib.Core.Logic.{◌≢◌}
-use mathlib.Core.Bool.{Bool, true, false, not}
+use mathlib.Core.Bool.{Bool, true, false}
 use mathlib.Core.Option.{some}
 use mathlib.Core.List.{List, [], ◌∷◌, ◌++◌, append_assoc}
 use Prim.Native.Nat.{ℕ, ◌+◌, ◌-◌, ◌≤◌, ◌<◌, ◌^◌}
 use native.Mathlib.Omega.{arith}
-use borrow.Author.Tests.{not-true}
 use lib.Dec.{eqb, ltb}
 use lib.ListN.{length, get_or, set, take, drop, length-append}
 use lib.Seq.{take-append_seam}
-use Rattle.format.specs.Answer.{if, ok, refused, and_then, no_room, BadType, BadValue, NoField, NoRoom}
+use Rattle.std.specs.Prelude.{Option, Some, None, Result, Ok, Err}
+use Rattle.core.specs.Option.{ok_or}
+use Rattle.format.specs.Answer.{if, Answer, ok, refused, and_then, no_room, BadType, BadValue, NoField}
 use Rattle.format.specs.Tree.{Ty, Val, Vals}
 use Rattle.format.specs.Sheet.{field_count, val_count, ty_words}
 use Rattle.format.specs.TypeSheet.{type_of, is_some, NotOptional}
@@ -21,8 +22,10 @@ use Rattle.format.specs.Encode.{vals_bytes, fits_all}
 use Rattle.format.specs.Bounds.{before, trimmed, strinc}
 use Rattle.format.specs.Calls.{Called, over, strinc_call}
 use Rattle.format.specs.Fields.{put}
-use Rattle.format.specs.Lengths.{length_in, Leaves}
-use Rattle.format.specs.declared.Length.{Length}
+use Rattle.format.specs.Calls as calls
+use Rattle.format.specs.Refusals.{number_of, detail_of, answered, Leaves}
+use Rattle.format.specs.declared.refusal.Refusal.{Refusal}
+use Rattle.format.specs.declared.refusal.Refusal.TheVariants as made
 use Rattle.format.specs.Spans.{first_tys, field_type, run_mark, start_end, start_ends, prefix_of, prefix_for, prefix_call}
 use Rattle.format.proofs.Tests.{eqb_test, eqb_yes, eqb_no, ltb_yes, ltb_no, ltb_test, leb_yes, Test, holds, fails}
 use Rattle.format.proofs.TypePlaces.{kind_is, ty_kind}
@@ -35,20 +38,17 @@ use Rattle.read.specs.Walk.{TypeAt}
 use Rattle.ends.specs.Ends.{Trims}
 use Rattle.ends.proofs.TrimLaws.{trim_last, trim_keep, trim_behind, last_of, strinc_long}
 use Rattle.fit.specs.declared.Fitted.{Fitted}
-use Rattle.fit.specs.declared.Fitted.TheVariants as fitted
 use Rattle.fit.specs.Fit.{FitFields}
 use Rattle.write.specs.declared.Put.{Put}
 use Rattle.write.specs.Write.{standing, WroteFields}
-use Rattle.key.specs.declared.bounding.Bounded.{Bounded as Answered}
-use Rattle.key.specs.declared.bounding.Bounded.TheVariants as bounding
-use Rattle.key.specs.declared.starting.NextField.{NextField}
-use Rattle.key.specs.declared.starting.NextField.TheVariants as next_field
-use Rattle.key.specs.Keys.{bounded_of, BoundsLeft}
-use Rattle.key.specs.Spanning.{is_record, has_next}
+use Rattle.key.specs.declared.bounding.Ends.{Ends}
+use Rattle.key.specs.Keys.{BoundsLeft}
+use Rattle.key.specs.Records.{is_record, has_next}
 use Rattle.key.specs.Firsts.{Firsts}
-use Rattle.key.specs.Starting.{kind_mark, MarksRun, AskedStart, NextSays, FirstFit, PutsStart, PutsStarts}
+use Rattle.key.specs.Starting.{mark_in, kind_mark, MarksRun, AskedStart, NextSays, FirstFit, PutsStart, PutsStarts}
 use Rattle.key.proofs.SpanLaws.{place_at}
 use Rattle.key.proofs.CallLaws.{no_type_lem}
+use Rattle.key.proofs.EndLaws.{told}
 use Rattle.key.proofs.FirstsLaws.{not_record, its_type, its_first, no_field, sheet, fields_in_lem, count_in, k_types, k_deep, k_count, next_in, first_refused, first_fit, first_long, put_over}
 
 -- ---- the next field's mark
@@ -71,15 +71,30 @@ module _ {ty : List ℕ} {at : ℕ} (y : TypeAt ty at) where
     mark_behind_there = let o = optional_here y.t y.here q in (kind_is ty (at + 1) y.end o.filled o.behind).0
 
     -- behind word 7
-    pub mark_behind : {r : ℕ} → r ≡ kind_mark (get_or ty (at + 1) 0) → MarksRun ty at r
+    pub mark_behind : {r : Option ℕ} → r ≡ mark_in (kind_mark (get_or ty (at + 1) 0)) → MarksRun ty at r
     mark_behind e = record {
       mark = λ t end s.
           let o = optional_here t s q in
-          e ∙ ap kind_mark (kind_is ty (at + 1) end o.filled o.behind).1 ∙ plain_mark o.filled o.plain ∙ sym (ap run_mark o.is);
+          e ∙ ap mark_in (ap kind_mark (kind_is ty (at + 1) end o.filled o.behind).1 ∙ plain_mark o.filled o.plain ∙ sym (ap run_mark o.is));
     }
 
-pub mark_here : {ty : List ℕ} {at : ℕ} → (get_or ty at 0 ≡ 7 → ⊥) → {r : ℕ} → r ≡ kind_mark (get_or ty at 0) → MarksRun ty at r
-mark_here {ty} {at} n e = record { mark = λ t end s. e ∙ ap kind_mark (kind_is ty at end t s).1 ∙ plain_mark t (plain_here t s n) }
+pub mark_here : {ty : List ℕ} {at : ℕ} → (get_or ty at 0 ≡ 7 → ⊥) → {r : Option ℕ} → r ≡ mark_in (kind_mark (get_or ty at 0)) → MarksRun ty at r
+mark_here {ty} {at} n e = record { mark = λ t end s. e ∙ ap mark_in (ap kind_mark (kind_is ty at end t s).1 ∙ plain_mark t (plain_here t s n)) }
+
+-- a mark that is there, and none
+a_mark : (m n : ℕ) → Some m ≡ mark_in n → (m ≡ n) × (n ≡ 0 → ⊥)
+a_mark m n e = go (eqb_test n 0) e
+  where
+    go : {x : Bool} → Test (n ≡ 0) (n ≡ 0 → ⊥) x → Some m ≡ if x None (Some n) → (m ≡ n) × (n ≡ 0 → ⊥)
+    go (holds h) q = absurd (let z : ◌≡◌ {A = ℕ} 0 1 = cc in omega arith)
+    go (fails h) q = (cc, h)
+
+no_mark : (n : ℕ) → None ≡ mark_in n → n ≡ 0
+no_mark n e = go (eqb_test n 0) e
+  where
+    go : {x : Bool} → Test (n ≡ 0) (n ≡ 0 → ⊥) x → None ≡ if x None (Some n) → n ≡ 0
+    go (holds h) q = h
+    go (fails h) q = absurd (let z : ◌≡◌ {A = ℕ} 0 1 = cc in omega arith)
 
 -- ---- the checks
 
@@ -90,20 +105,20 @@ unfolding prefix_for
 start_is i s = rw (i.typed, i.first_is, ltb_yes (val_count i.vs) (field_count i.ts) i.inside)
 
 module _ (ty words pool : List ℕ) {b : Bool} (said : b ≡ is_some (type_of ty)) where
-  pub n_type : not b ≡ true → NextSays ty words pool (next_field.Refused BadType)
+  pub n_type : b ≡ false → NextSays ty words pool (Err made.BadType)
   unfolding prefix_for
-  n_type h = λ s. rw (no_type_lem ty (sym said ∙ not-true b h))
+  n_type h = λ s. rw (no_type_lem ty (sym said ∙ h))
 
-  module _ (yes : not b ≡ false) {q : Bool} (first : q ≡ is_record (value_of words pool)) where
-    pub n_first : not q ≡ true → NextSays ty words pool (next_field.Refused BadValue)
+  module _ (yes : b ≡ true) {q : Bool} (first : q ≡ is_record (value_of words pool)) where
+    pub n_first : q ≡ false → NextSays ty words pool (Err made.BadValue)
     unfolding prefix_for
-    n_first h = λ s. rw (its_type ty words pool said yes).1 (not_record (value_of words pool) _ (sym first ∙ not-true q h))
+    n_first h = λ s. rw (its_type ty words pool said yes).1 (not_record (value_of words pool) _ (sym first ∙ h))
 
-    module _ (record_yes : not q ≡ false) {n : Bool} (next : n ≡ has_next ty words) where
+    module _ (record_yes : q ≡ true) {n : Bool} (next : n ≡ has_next ty words) where
       abbrev vs : (vs : Vals) × (value_of words pool ≡ some (Val.Record vs))
       vs = its_first ty words pool said yes first record_yes
 
-      pub n_none : not n ≡ true → NextSays ty words pool (next_field.Refused NoField)
+      pub n_none : n ≡ false → NextSays ty words pool (Err made.NoField)
       unfolding prefix_for
       n_none h = λ s. rw ((its_type ty words pool said yes).1, vs.1) (no_field ty words pool said yes first record_yes next (prefix_of vs.0 s) h)
 
@@ -121,15 +136,12 @@ module _ {ty words pool : List ℕ} (i : Firsts ty words pool) {at : ℕ} (skips
   pub n_there : TypeAt ty at
   n_there = rw u_place (record { t = u; end = place_at k i.ts + length (ty_words u); here = (next_in i).0; deep = (next_in i).1 })
 
-  module _ {mark : ℕ} (marks : MarksRun ty at mark) where
-    u_mark : mark ≡ run_mark u
-    u_mark = marks.mark u (place_at k i.ts + length (ty_words u)) (rw u_place (next_in i).0)
-
-    pub n_kind : mark ≡ 0 → NextSays ty words pool (next_field.Refused NoField)
-    n_kind z = λ s. rw (start_is i s, ← u_mark, z)
-
-    pub n_run : (mark ≡ 0 → ⊥) → NextSays ty words pool (next_field.Run mark)
-    n_run z = record { firsts = i; marked = u_mark; run = z }
+  pub n_next : {m : Option ℕ} → MarksRun ty at m → {r : Result ℕ Refusal} → r ≡ ok_or m made.NoField → NextSays ty words pool r
+  n_next {m} marks e = rw e (go m (marks.mark u (place_at k i.ts + length (ty_words u)) (rw u_place (next_in i).0)))
+    where
+      go : (m : Option ℕ) → m ≡ mark_in (run_mark u) → NextSays ty words pool (ok_or m made.NoField)
+      go None q = let z = no_mark (run_mark u) q in λ s. rw (start_is i s, z)
+      go (Some mark) q = let z = a_mark mark (run_mark u) q in record { firsts = i; marked = z.0; run = λ y. z.1 (sym z.0 ∙ y) }
 
 -- ---- the beginning without its trailing FF
 
@@ -236,24 +248,20 @@ module _ (words pool : List ℕ) (n mark : ℕ) (s : List ℕ) where
 -- ---- both ends
 
 -- what asking for room at a buffer's beginning says
-abbrev RoomSays : (len n : ℕ) → Length → Type 0
-RoomSays len n (Length.Done m) = (m ≡ n) × (n ≤ len)
-RoomSays len n (Length.Refused c d) = (len < n) × (length_in (Length.Refused c d) ≡ no_room n)
+abbrev RoomSays : (len n : ℕ) → Result ℕ Refusal → Type 0
+RoomSays len n (Ok m) = (m ≡ n) × (n ≤ len)
+RoomSays len n (Err e) = (len < n) × (answered {A = ℕ} (Err e) ≡ no_room n)
 
-room_says : (len n : ℕ) (r : Length) → length_in r ≡ room_for len 0 n → RoomSays len n r
+room_says : (len n : ℕ) (r : Result ℕ Refusal) → answered r ≡ room_for len 0 n → RoomSays len n r
 room_says len n r e = go (ltb len 0) (ltb_test len 0) (ltb len (0 + n)) (ltb_test len (0 + n)) r e
   where
-    go : (a : Bool) → Test (len < 0) (0 ≤ len) a → (b : Bool) → Test (len < 0 + n) (0 + n ≤ len) b → (r : Length)
-        → length_in r ≡ if a (no_room 0) (if b (no_room (0 + n)) (ok (0 + n))) → RoomSays len n r
+    go : (a : Bool) → Test (len < 0) (0 ≤ len) a → (b : Bool) → Test (len < 0 + n) (0 + n ≤ len) b → (r : Result ℕ Refusal)
+        → answered r ≡ if a (no_room 0) (if b (no_room (0 + n)) (ok (0 + n))) → RoomSays len n r
     go _ (holds h) b t r e = absurd (omega arith)
-    go _ (fails h) _ (holds t) (Length.Done m) e = absurd (let z : ◌≡◌ {A = ℕ} 0 1 = cc in omega arith)
-    go _ (fails h) _ (holds t) (Length.Refused c d) e = let z : 0 + n ≡ n = omega arith in (omega arith, rw z at e)
-    go _ (fails h) _ (fails t) (Length.Done m) e = let same : m ≡ 0 + n = cc in (omega arith, omega arith)
-    go _ (fails h) _ (fails t) (Length.Refused c d) e = absurd (let z : ◌≡◌ {A = ℕ} 0 1 = cc in omega arith)
-
--- a refusal for want of room, by its detail
-told : (c d n : ℕ) → length_in (Length.Refused c d) ≡ no_room n → bounded_of (bounding.Refused c d) ≡ no_room n
-told c d n e = cc
+    go _ (fails h) _ (holds t) (Ok m) e = absurd (let z : ◌≡◌ {A = ℕ} 0 1 = cc in omega arith)
+    go _ (fails h) _ (holds t) (Err f) e = let z : 0 + n ≡ n = omega arith in (omega arith, rw z at e)
+    go _ (fails h) _ (fails t) (Ok m) e = let same : m ≡ 0 + n = cc in (omega arith, omega arith)
+    go _ (fails h) _ (fails t) (Err f) e = absurd (let z : ◌≡◌ {A = ℕ} 0 1 = cc in omega arith)
 
 module _ (words pool : List ℕ) (n mark : ℕ) (s lower upper : List ℕ) (small : mark < 0xFF) where
   module _ (f : FirstFit words pool n) where
@@ -272,33 +280,27 @@ module _ (words pool : List ℕ) (n mark : ℕ) (s lower upper : List ℕ) (smal
         let kept = trim_behind (vals_bytes 0 f.vs) mark (run_start s) (λ e. omega arith) in
         omega (arith, strinc_long low high.0 high.1, ap length kept, length-append (vals_bytes 0 f.vs) (mark ∷ trimmed (run_start s)), f.long)
 
-  module _ {run : ℕ} (run_is : run ≡ length (run_start s)) {room : Length} (asks : length_in room ≡ room_for (length lower) 0 (n + 1 + run)) where
+  module _ {run : ℕ} (run_is : run ≡ length (run_start s)) where
     -- no room for the lower end
-    pub p_low : {c d : ℕ} → room ≡ Length.Refused c d → PutsStarts words pool n mark s lower upper (bounding.Refused c d) lower upper
-    p_low {c} {d} y = record {
+    pub p_low : {e : Refusal} → answered {A = ℕ} (Err e) ≡ room_for (length lower) 0 (n + 1 + run) → PutsStarts words pool n mark s lower upper (Err e) lower upper
+    p_low {e} asks = record {
       left = λ f.
-          let r = rw y at (room_says (length lower) (n + 1 + run) room asks) in
+          let r = room_says (length lower) (n + 1 + run) (Err e) asks in
           let m : n + 1 + run ≡ length (low f) = omega (arith, end_long words pool n mark s f) in
-          rw (both_is f, ltb_yes (length lower) (length (low f)) (omega (arith, r.0))) (record { answer = told c d (length (low f)) (r.1 ∙ ap no_room m); low = refl; high = refl });
+          rw (both_is f, ltb_yes (length lower) (length (low f)) (omega (arith, r.0))) (record { answer = told e (length (low f)) (r.1 ∙ ap no_room m); low = refl; high = refl });
     }
 
-    module _ {end : ℕ} (y : room ≡ Length.Done end) where
+    module _ {end : ℕ} (asks : answered (Ok end) ≡ room_for (length lower) 0 (n + 1 + run)) where
       fits_low : (end ≡ n + 1 + run) × (n + 1 + run ≤ length lower)
-      fits_low = rw y at (room_says (length lower) (n + 1 + run) room asks)
+      fits_low = room_says (length lower) (n + 1 + run) (Ok end) asks
 
       -- so the upper end's length is no sum that is too large
       pub p_short : (trims : ℕ) → trims ≡ length (trimmed (run_start s)) → length lower < 2 ^ 64 → n + 1 + trims < 2 ^ 64
       p_short trims e l = omega (arith, fits_low, trim_short (run_start s))
 
-      pub p_room : n + 1 + length (run_start s) ≤ length lower
-      p_room = omega (arith, fits_low)
-
-      pub p_end : end ≤ length lower
-      p_end = omega (arith, fits_low)
-
       module _ {trims : ℕ} (trims_is : trims ≡ length (trimmed (run_start s))) where
         -- no room for the upper end
-        pub p_high : length upper < n + 1 + trims → n + 1 + trims < 2 ^ 64 → PutsStarts words pool n mark s lower upper (bounding.Refused NoRoom (n + 1 + trims)) lower upper
+        pub p_high : length upper < n + 1 + trims → n + 1 + trims < 2 ^ 64 → PutsStarts words pool n mark s lower upper (Err (made.NoRoom (n + 1 + trims))) lower upper
         p_high h l = record {
           left = λ f.
               let e = high_long f in
@@ -308,8 +310,7 @@ module _ (words pool : List ℕ) (n mark : ℕ) (s lower upper : List ℕ) (smal
         }
 
         -- the lower end was written; strinc of it finds room and a byte to raise
-        module _ (h : n + 1 + trims ≤ length upper) {lower' : List ℕ} (puts : PutsStart words pool n mark s lower lower') {r : Length} {upper' : List ℕ}
-            (leaves : Leaves (strinc_call (take end lower') upper) r upper') where
+        module _ (h : n + 1 + trims ≤ length upper) {lower' : List ℕ} (puts : PutsStart words pool n mark s lower lower') where
           module _ (f : FirstFit words pool n) where
             stands : take end lower' ≡ low f
             stands =
@@ -320,18 +321,18 @@ module _ (words pool : List ℕ) (n mark : ℕ) (s lower upper : List ℕ) (smal
             unfolding strinc_call
             called = rw (stands, (high f).1, leb_yes (length (high f).0) (length upper) (omega (arith, high_long f)))
 
-          pub p_never : {c d : ℕ} → r ≡ Length.Refused c d → {lower'' upper'' : List ℕ} → FirstFit words pool n → PutsStarts words pool n mark s lower upper (bounding.Refused c d) lower'' upper''
-          p_never {c} {d} z f = absurd (let y : ◌≡◌ {A = ℕ} 0 1 = cc (rw z at leaves.answer, ap (λ (x : Called ℕ). x.answer) (called f)) in omega arith)
+          pub p_never : {e : Refusal} {upper' lower₁ upper₁ : List ℕ} → Leaves (strinc_call (take end lower') upper) (Err e) upper' → FirstFit words pool n → PutsStarts words pool n mark s lower upper (Err e) lower₁ upper₁
+          p_never leaves f = absurd (let y : ◌≡◌ {A = ℕ} 0 1 = cc (leaves.answer, ap (λ (x : Called ℕ). x.answer) (called f)) in omega arith)
 
-          pub p_done : {up : ℕ} → r ≡ Length.Done up → PutsStarts words pool n mark s lower upper (bounding.Done end up) lower' upper'
-          p_done {up} z = record {
+          pub p_done : {up : ℕ} {upper' : List ℕ} → Leaves (strinc_call (take end lower') upper) (Ok up) upper' → PutsStarts words pool n mark s lower upper (Ok (record { lower = end; upper = up })) lower' upper'
+          p_done {up} leaves = record {
             left = λ f.
                 let long = end_long words pool n mark s f in
                 let e : end ≡ length (low f) = omega (arith, fits_low) in
-                let u : up ≡ length (high f).0 = cc (rw z at leaves.answer, ap (λ (x : Called ℕ). x.answer) (called f)) in
+                let u : up ≡ length (high f).0 = cc (leaves.answer, ap (λ (x : Called ℕ). x.answer) (called f)) in
                 rw (both_is f, ltb_no (length lower) (length (low f)) (omega (arith, fits_low)), ltb_no (length upper) (length (high f).0) (omega (arith, high_long f)))
                 (record {
-                  answer = ap₂ (λ (i j : ℕ). bounded_of (bounding.Done i j)) e u;
+                  answer = ap₂ {C = Answer calls.Ends} (λ (i j : ℕ). ok (record { lower = i; upper = j })) e u;
                   low = puts.puts f ∙ put_over lower (low f);
                   high = leaves.left ∙ ap (λ (x : Called ℕ). x.buffer) (called f);
                 });
@@ -340,43 +341,31 @@ module _ (words pool : List ℕ) (n mark : ℕ) (s lower upper : List ℕ) (smal
 -- ---- the call
 
 module _ (ty words pool s lower upper : List ℕ) where
-  says_no : (n d : ℕ) → prefix_for ty words pool s ≡ refused n d → BoundsLeft (prefix_call ty words pool s lower upper) (bounding.Refused n d) lower upper
+  says_no : (e : Refusal) → prefix_for ty words pool s ≡ refused (number_of e) (detail_of e) → BoundsLeft (prefix_call ty words pool s lower upper) (Err e) lower upper
   unfolding prefix_call
-  says_no n d e = rw e (record { answer = refl; low = refl; high = refl })
+  says_no e q = rw q (record { answer = refl; low = refl; high = refl })
 
-  module _ {next : NextField} (says : NextSays ty words pool next) where
-    pub w_sheets : {n : ℕ} → next ≡ next_field.Refused n → BoundsLeft (prefix_call ty words pool s lower upper) (bounding.Refused n 0) lower upper
-    w_sheets {n} y = let r : NextSays ty words pool (next_field.Refused n) = rw y at says in says_no n 0 (r s)
+  pub w_sheets : {e : Refusal} → NextSays ty words pool (Err e) → BoundsLeft (prefix_call ty words pool s lower upper) (Err e) lower upper
+  w_sheets {e} says = says_no e (says s)
 
-    module _ {mark : ℕ} (y : next ≡ next_field.Run mark) where
-      abbrev asked : AskedStart ty words pool mark
-      asked = rw y at says
+  module _ {mark : ℕ} (asked : AskedStart ty words pool mark) where
+    abbrev i : Firsts ty words pool
+    i = asked.firsts
 
-      abbrev pub w_firsts : Firsts ty words pool
-      w_firsts = asked.firsts
+    pub w_small : mark < 0xFF
+    w_small = rw asked.marked (mark_small (field_type (val_count i.vs) i.ts))
 
-      pub w_small : mark < 0xFF
-      w_small = rw asked.marked (mark_small (field_type (val_count w_firsts.vs) w_firsts.ts))
+    -- behind the checks
+    judged : prefix_for ty words pool s ≡ and_then (fits_all (first_tys (val_count i.vs) i.ts) 0 i.vs) (λ a. start_ends i.vs mark s)
+    judged = start_is i s ∙ rw (← asked.marked, eqb_no mark 0 asked.run)
 
-      -- behind the checks
-      judged : prefix_for ty words pool s ≡ and_then (fits_all (first_tys (val_count w_firsts.vs) w_firsts.ts) 0 w_firsts.vs) (λ a. start_ends w_firsts.vs mark s)
-      judged = start_is w_firsts s ∙ rw (← asked.marked, eqb_no mark 0 asked.run)
+    pub w_values : {e : Refusal} → FitFields ty words pool 2 2 0 (get_or words 1 0) 0 false (Err e) → BoundsLeft (prefix_call ty words pool s lower upper) (Err e) lower upper
+    w_values {e} f = says_no e (judged ∙ rw (first_refused i f))
 
-      module _ {r : Fitted} (f : FitFields ty words pool 2 2 0 (get_or words 1 0) 0 false r) where
-        pub w_values : {n d : ℕ} → r ≡ fitted.Refused n d → BoundsLeft (prefix_call ty words pool s lower upper) (bounding.Refused n d) lower upper
-        w_values {n} {d} z = says_no n d (judged ∙ rw (first_refused w_firsts f z))
+    module _ {x : Fitted} (f : FitFields ty words pool 2 2 0 (get_or words 1 0) 0 false (Ok x)) where
+      pub w_fit : FirstFit words pool x.len
+      w_fit = record { ts = first_tys (val_count i.vs) i.ts; vs = i.vs; first_is = i.first_is; fit = first_fit i f; long = (first_long i f).0; short = (first_long i f).1 }
 
-        module _ {at w p n : ℕ} (z : r ≡ fitted.Fits at w p n) where
-          pub w_fit : FirstFit words pool n
-          w_fit = record {
-            ts = first_tys (val_count w_firsts.vs) w_firsts.ts;
-            vs = w_firsts.vs;
-            first_is = w_firsts.first_is;
-            fit = first_fit w_firsts f z;
-            long = (first_long w_firsts f z).0;
-            short = (first_long w_firsts f z).1;
-          }
-
-          pub w_done : {o : Answered} {lower' upper' : List ℕ} → PutsStarts words pool n mark s lower upper o lower' upper' → BoundsLeft (prefix_call ty words pool s lower upper) o lower' upper'
-          unfolding prefix_call w_fit
-          w_done p = rw (judged, first_fit w_firsts f z) (p.left w_fit)
+      pub w_done : {o : Result Ends Refusal} {lower' upper' : List ℕ} → PutsStarts words pool x.len mark s lower upper o lower' upper' → BoundsLeft (prefix_call ty words pool s lower upper) o lower' upper'
+      unfolding prefix_call w_fit
+      w_done p = rw (judged, first_fit i f) (p.left w_fit)

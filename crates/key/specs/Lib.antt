@@ -1,4 +1,5 @@
 -- What the contracts cite beside the calls of format.
+pub mod Records
 pub mod Passing
 pub mod Keys
 pub mod Spanning

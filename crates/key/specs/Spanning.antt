@@ -1,8 +1,9 @@
 -- What the steps of the span call promise: its checks, the lengths of its ends, and the bytes of each, by format's definitions.
-use Rattle.std.specs.Prelude.{◌≡◌, Bool, false, List, ◌++◌, ℕ, ◌≤◌, ◌<◌, ltb, eqb, length, get_or}
-use Rattle.std.proofs.Math.Option.{Option, some, none}
-use Rattle.format.specs.Answer.{if, Answer, ok, refused}
-use Rattle.format.specs.Tree.{Ty, Tys, Val, Vals, val_kind}
+use Rattle.std.specs.Prelude.{◌≡◌, List, ◌++◌, ℕ, ◌≤◌, ◌<◌, length, Result, Ok, Err}
+use Rattle.std.proofs.Math.Option.{some}
+use Rattle.format.specs.Answer.{Answer, ok, refused}
+use Rattle.format.specs.Refusals.{number_of, detail_of}
+use Rattle.format.specs.Tree.{Ty, Tys, Val, Vals}
 use Rattle.format.specs.Sheet.{field_count, val_count}
 use Rattle.format.specs.TypeSheet.{type_of}
 use Rattle.format.specs.ValueSheet.{value_of}
@@ -10,23 +11,9 @@ use Rattle.format.specs.Encode.{val_bytes, vals_bytes, fits, fits_all, fine}
 use Rattle.format.specs.Calls.{Ends, TwoEnds}
 use Rattle.format.specs.Fields.{put}
 use Rattle.format.specs.Spans.{span_for}
+use Rattle.format.specs.declared.refusal.Refusal.{Refusal}
 
 -- ---- the checks
-
--- a sheet that is admitted, and a record
-abbrev pub is_record : Option Val → Bool
-is_record none = false
-is_record (some v) = eqb (val_kind v) 5
-
--- the words that say how many fields there are: of a type sheet that is no record's, none
-pub record FirstWords (ty words : List ℕ) : Type 0 where
-  pub kind_word : 0 < length ty
-  pub type_count : get_or ty 0 0 ≡ 5 → 1 < length ty
-  pub value_count : 1 < length words
-
--- a record type with more fields than the record sheet has
-abbrev pub has_next : (ty words : List ℕ) → Bool
-has_next ty words = if (eqb (get_or ty 0 0) 5) (ltb (get_or words 1 0) (get_or ty 1 0)) false
 
 -- what the sheets of a call hold that passed its checks: a record type, the first k values, a lowest and a highest, and a field for these two
 pub record Asked (ty words pool low_words low_pool high_words high_pool : List ℕ) : Type 0 where
@@ -40,10 +27,11 @@ pub record Asked (ty words pool low_words low_pool high_words high_pool : List �
   pub highest_is : value_of high_words high_pool ≡ some hi
   pub inside : val_count vs < field_count ts
 
--- 0 where the checks pass, else the number of the first that does not
-pub record Refuses (ty words pool low_words low_pool high_words high_pool : List ℕ) (r : ℕ) : Type 0 where
-  pub passed : r ≡ 0 → Asked ty words pool low_words low_pool high_words high_pool
-  pub refusal : (r ≡ 0 → ⊥) → span_for ty words pool low_words low_pool high_words high_pool ≡ refused r 0
+-- the checks pass, or the first that does not refuses the call
+abbrev pub Refuses : (ty words pool low_words low_pool high_words high_pool : List ℕ) → Result Unit Refusal → Type 0
+Refuses ty words pool low_words low_pool high_words high_pool (Ok u) = Asked ty words pool low_words low_pool high_words high_pool
+Refuses ty words pool low_words low_pool high_words high_pool (Err e) =
+    span_for ty words pool low_words low_pool high_words high_pool ≡ refused (number_of e) (detail_of e)
 
 -- ---- the two ends
 

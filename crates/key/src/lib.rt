@@ -4,11 +4,12 @@
 
 mod bounding;
 mod passing;
+mod records;
 mod replacing;
 mod spanning;
 mod starting;
 
-pub use bounding::{Bounded, bounds};
+pub use bounding::{Ends, bounds};
 pub use replacing::replace;
 pub use spanning::span;
 pub use starting::starting_with;

@@ -1,13 +1,12 @@
 // Replacement: a new value in one field of a key, in the key's own buffer.
 ghost use Rattle.std.specs.Prelude.{◌≤◌, length};
 ghost use Rattle.format.specs.Calls.{replace_call};
-ghost use Rattle.format.specs.Lengths.{Leaves};
+ghost use Rattle.format.specs.Refusals.{Leaves};
 ghost use Rattle.read.specs.Walk.{TypeAt};
 ghost use Rattle.key.specs.Keys.{Puts, Splices, ValueStands};
 
-use crate::passing::Field;
-use fit::Fitted;
-use format::Length;
+use crate::{passing, records};
+use format::Refusal;
 
 // Moves the bytes behind a part and writes the value of n bytes in its place.
 fn splice(
@@ -36,33 +35,24 @@ fn put_field(
     end: usize,
     words: &[u64],
     pool: &[u8],
-) -> Length
+) -> Result<usize, Refusal>
     requires typed { TypeAt ty.now at }
     requires inside { (start ≤ end) × (end ≤ used) × (used ≤ length buffer.old) }
     ensures { ValueStands ty.now at buffer.old used start end words.now pool.now result buffer.new }
 {
     if !sheet::admit_value(words, pool) {
-        return Length::Refused(format::BAD_VALUE, 0);
+        return Err(Refusal::BadValue);
     }
-    match fit::fit_value(ty, words, pool, at, 0, 0, 0, false) {
-        Fitted::Refused(no, detail) => Length::Refused(no, detail),
-        Fitted::Fits {
-            at: _,
-            word: _,
-            pool: _,
-            len: n,
-        } => {
-            let len = start + n + (used - end);
-            if format::MAX_KEY_BYTES < len {
-                return Length::Refused(format::KEY_TOO_LONG, len as u64);
-            }
-            if buffer.len() < len {
-                return Length::Refused(format::NO_ROOM, len as u64);
-            }
-            splice(words, pool, buffer, used, start, end, n);
-            Length::Done(len)
-        }
+    let fitted = fit::fit_value(ty, words, pool, at, 0, 0, 0, false)?;
+    let len = start + fitted.len + (used - end);
+    if format::MAX_KEY_BYTES < len {
+        return Err(Refusal::KeyTooLong(len));
     }
+    if buffer.len() < len {
+        return Err(Refusal::NoRoom(len));
+    }
+    splice(words, pool, buffer, used, start, end, fitted.len);
+    Ok(len)
 }
 
 // Replaces a field of the key in the buffer's first bytes; what stood behind the field follows it. The new used length, or what refuses it.
@@ -73,24 +63,16 @@ pub fn replace(
     field: usize,
     words: &[u64],
     pool: &[u8],
-) -> Length
+) -> Result<usize, Refusal>
     ensures { Leaves (replace_call ty.now buffer.old used field words.now pool.now) result buffer.new }
 {
-    if !sheet::admit_type(ty) {
-        return Length::Refused(format::BAD_TYPE, 0);
-    }
-    if ty[0] != format::KIND_RECORD {
-        return Length::Refused(format::NO_FIELD, 0);
-    }
-    let n = ty[1];
+    let n = records::field_count(ty)?;
     if (n as usize) <= field {
-        return Length::Refused(format::NO_FIELD, 0);
+        return Err(Refusal::NoField);
     }
     if buffer.len() < used {
-        return Length::Refused(format::NO_ROOM, used as u64);
+        return Err(Refusal::NoRoom(used));
     }
-    match crate::passing::find_field(ty, n, &buffer[..used], field as u32) {
-        Field::Refused(no, detail) => Length::Refused(no, detail),
-        Field::At(at, start, end) => put_field(ty, at, buffer, used, start, end, words, pool),
-    }
+    let old = passing::find_field(ty, n, &buffer[..used], field as u32)?;
+    put_field(ty, old.at, buffer, used, old.start, old.end, words, pool)
 }

@@ -1,36 +1,15 @@
 // The span call: the two ends of the keys whose first k fields are equal and whose next lies from a lowest to a highest value.
 ghost use Rattle.std.specs.Prelude.{◌≡◌, ◌≤◌, length};
-ghost use Rattle.format.specs.ValueSheet.{value_of};
 ghost use Rattle.format.specs.Spans.{span_for, span_call};
 ghost use Rattle.key.specs.Keys.{bounded_of, BoundsLeft};
-ghost use Rattle.key.specs.Spanning.{is_record, FirstWords, has_next, Asked, Refuses, longs, PutsEnd};
+ghost use Rattle.key.specs.Spanning.{Asked, Refuses, longs, PutsEnd};
 
-use crate::bounding::Bounded;
-use fit::Fitted;
+use crate::bounding::Ends;
+use crate::records;
+use format::Refusal;
 
-// Is the sheet admitted, and a record? Then its second word is how many fields it has.
-pub fn admit_record(words: &[u64], pool: &[u8]) -> bool
-    ensures { result ≡ is_record (value_of words.now pool.now) }
-{
-    if !sheet::admit_value(words, pool) {
-        return false;
-    }
-    words[0] == format::VALUE_RECORD
-}
-
-// Is the type a record with a field behind the first k, k being the record sheet's count?
-pub fn has_next(ty: &[u32], words: &[u64]) -> bool
-    requires { FirstWords ty.now words.now }
-    ensures { result ≡ has_next ty.now words.now }
-{
-    if ty[0] != format::KIND_RECORD {
-        return false;
-    }
-    words[1] < format::wide_word(ty[1])
-}
-
-// What refuses the sheets, in the order given, and the field behind the first k; 0 where nothing does.
-fn refused_by(
+// The sheets, in the order given, and the field behind the first k.
+fn check_sheets(
     ty: &[u32],
     words: &[u64],
     pool: &[u8],
@@ -38,25 +17,25 @@ fn refused_by(
     low_pool: &[u8],
     high_words: &[u64],
     high_pool: &[u8],
-) -> u32
+) -> Result<(), Refusal>
     ensures { Refuses ty.now words.now pool.now low_words.now low_pool.now high_words.now high_pool.now result }
 {
     if !sheet::admit_type(ty) {
-        return format::BAD_TYPE;
+        return Err(Refusal::BadType);
     }
-    if !admit_record(words, pool) {
-        return format::BAD_VALUE;
+    if !records::admit_record(words, pool) {
+        return Err(Refusal::BadValue);
     }
     if !sheet::admit_value(low_words, low_pool) {
-        return format::BAD_VALUE;
+        return Err(Refusal::BadValue);
     }
     if !sheet::admit_value(high_words, high_pool) {
-        return format::BAD_VALUE;
+        return Err(Refusal::BadValue);
     }
-    if !has_next(ty, words) {
-        return format::NO_FIELD;
+    if !records::has_next(ty, words) {
+        return Err(Refusal::NoField);
     }
-    0
+    Ok(())
 }
 
 // How long the two ends are, or what refuses the k values, the lowest or the highest under their types, bare at depth 0.
@@ -68,40 +47,18 @@ fn measure(
     low_pool: &[u8],
     high_words: &[u64],
     high_pool: &[u8],
-) -> Bounded
+) -> Result<Ends, Refusal>
     requires { Asked ty.now words.now pool.now low_words.now low_pool.now high_words.now high_pool.now }
     ensures { bounded_of result ≡ longs (span_for ty.now words.now pool.now low_words.now low_pool.now high_words.now high_pool.now) }
 {
     let k = words[1] as u32;
-    match fit::fit_fields(ty, words, pool, 2, 2, 0, k, 0, true) {
-        Fitted::Refused(no, detail) => Bounded::Refused(no, detail),
-        Fitted::Fits {
-            at,
-            word: _,
-            pool: _,
-            len: n,
-        } => match fit::fit_value(ty, low_words, low_pool, at, 0, 0, 0, false) {
-            Fitted::Refused(no, detail) => Bounded::Refused(no, detail),
-            Fitted::Fits {
-                at: _,
-                word: _,
-                pool: _,
-                len: low,
-            } => match fit::fit_value(ty, high_words, high_pool, at, 0, 0, 0, false) {
-                Fitted::Refused(no, detail) => Bounded::Refused(no, detail),
-                Fitted::Fits {
-                    at: _,
-                    word: _,
-                    pool: _,
-                    len: high,
-                } => {
-                    let lower = n + low;
-                    let upper = n + high + 1;
-                    Bounded::Done(lower, upper)
-                }
-            },
-        },
-    }
+    let first = fit::fit_fields(ty, words, pool, 2, 2, 0, k, 0, true)?;
+    let low = fit::fit_value(ty, low_words, low_pool, first.at, 0, 0, 0, false)?;
+    let high = fit::fit_value(ty, high_words, high_pool, first.at, 0, 0, 0, false)?;
+    Ok(Ends {
+        lower: first.len + low.len,
+        upper: first.len + high.len + 1,
+    })
 }
 
 // Writes the k fields and the value behind them at the buffer's beginning.
@@ -124,26 +81,19 @@ pub fn span(
     high_pool: &[u8],
     lower: &mut [u8],
     upper: &mut [u8],
-) -> Bounded
+) -> Result<Ends, Refusal>
     ensures { BoundsLeft (span_call ty.now words.now pool.now low_words.now low_pool.now high_words.now high_pool.now lower.old upper.old) result lower.new upper.new }
 {
-    let no = refused_by(ty, words, pool, low_words, low_pool, high_words, high_pool);
-    if no != 0 {
-        return Bounded::Refused(no, 0);
+    check_sheets(ty, words, pool, low_words, low_pool, high_words, high_pool)?;
+    let sizes = measure(ty, words, pool, low_words, low_pool, high_words, high_pool)?;
+    if lower.len() < sizes.lower {
+        return Err(Refusal::NoRoom(sizes.lower));
     }
-    match measure(ty, words, pool, low_words, low_pool, high_words, high_pool) {
-        Bounded::Refused(refusal, detail) => Bounded::Refused(refusal, detail),
-        Bounded::Done(low, high) => {
-            if lower.len() < low {
-                return Bounded::Refused(format::NO_ROOM, low as u64);
-            }
-            if upper.len() < high {
-                return Bounded::Refused(format::NO_ROOM, high as u64);
-            }
-            put_end(words, pool, low_words, low_pool, lower);
-            put_end(words, pool, high_words, high_pool, upper);
-            upper[high - 1] = format::MARK_ESCAPE;
-            Bounded::Done(low, high)
-        }
+    if upper.len() < sizes.upper {
+        return Err(Refusal::NoRoom(sizes.upper));
     }
+    put_end(words, pool, low_words, low_pool, lower);
+    put_end(words, pool, high_words, high_pool, upper);
+    upper[sizes.upper - 1] = format::MARK_ESCAPE;
+    Ok(sizes)
 }

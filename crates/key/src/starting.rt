@@ -5,36 +5,26 @@ ghost use Rattle.format.specs.Bounds.{trimmed};
 ghost use Rattle.format.specs.Spans.{prefix_call};
 ghost use Rattle.read.specs.Walk.{TypeAt};
 ghost use Rattle.key.specs.Keys.{BoundsLeft};
-ghost use Rattle.key.specs.Starting.{kind_mark, MarksRun, NextSays, FirstFit, PutsStart, PutsStarts};
+ghost use Rattle.key.specs.Starting.{mark_in, kind_mark, MarksRun, NextSays, FirstFit, PutsStart, PutsStarts};
 
-use crate::bounding::Bounded;
-use crate::spanning;
-use fit::Fitted;
-use format::Length;
+use crate::bounding::Ends;
+use crate::records;
+use format::Refusal;
 use scalar::{puts, starts};
 
-// The mark of the field behind the first k, or what refuses the sheets or that field.
-#[derive(Clone, Copy)]
-pub enum NextField {
-    Run(u8),
-    Refused(u32),
-}
-
-// The mark of a Str or a Bytes by the kind's number; 0 of another kind.
-fn mark_of(kind: u32) -> u8
-    ensures { result ≡ kind_mark kind }
+// The mark of a Str or a Bytes, by the kind's number.
+fn mark_of(kind: u32) -> Option<u8>
+    ensures { result ≡ mark_in (kind_mark kind) }
 {
-    if kind == format::KIND_STR {
-        return format::MARK_STRING;
+    match kind {
+        format::KIND_STR => Some(format::MARK_STRING),
+        format::KIND_BYTES => Some(format::MARK_BYTES),
+        _ => None,
     }
-    if kind == format::KIND_BYTES {
-        return format::MARK_BYTES;
-    }
-    0
 }
 
-// The mark of the Str or Bytes type at a place, of an optional one too; 0 of another type.
-fn run_mark(ty: &[u32], at: usize) -> u8
+// The mark of the Str or Bytes type at a place, of an optional one too.
+fn run_mark(ty: &[u32], at: usize) -> Option<u8>
     requires { TypeAt ty.now at }
     ensures { MarksRun ty.now at result }
 {
@@ -44,25 +34,21 @@ fn run_mark(ty: &[u32], at: usize) -> u8
     mark_of(ty[at])
 }
 
-// The sheets, and then the field behind the first k, by its kind: before these values are judged.
-fn next_run(ty: &[u32], words: &[u64], pool: &[u8]) -> NextField
+// The sheets, and then the mark of the field behind the first k, by its kind: before these values are judged.
+fn next_run(ty: &[u32], words: &[u64], pool: &[u8]) -> Result<u8, Refusal>
     ensures { NextSays ty.now words.now pool.now result }
 {
     if !sheet::admit_type(ty) {
-        return NextField::Refused(format::BAD_TYPE);
+        return Err(Refusal::BadType);
     }
-    if !spanning::admit_record(words, pool) {
-        return NextField::Refused(format::BAD_VALUE);
+    if !records::admit_record(words, pool) {
+        return Err(Refusal::BadValue);
     }
-    if !spanning::has_next(ty, words) {
-        return NextField::Refused(format::NO_FIELD);
+    if !records::has_next(ty, words) {
+        return Err(Refusal::NoField);
     }
     let at = sheet::skip_fields(ty, 2, words[1] as u32);
-    let mark = run_mark(ty, at);
-    if mark == 0 {
-        return NextField::Refused(format::NO_FIELD);
-    }
-    NextField::Run(mark)
+    run_mark(ty, at).ok_or(Refusal::NoField)
 }
 
 // How many bytes the beginning of a run keeps without its trailing FF: those of s go, and where a zero stands before them, its escape's FF goes too.
@@ -99,24 +85,21 @@ fn put_starts(
     s: &[u8],
     lower: &mut [u8],
     upper: &mut [u8],
-) -> Bounded
+) -> Result<Ends, Refusal>
     requires { FirstFit words.now pool.now n × (mark < 0xFF) }
     ensures { PutsStarts words.now pool.now n mark s.now lower.old upper.old result lower.new upper.new }
 {
-    match puts::room(lower.len(), 0, n + 1, starts::start_len(s)) {
-        Length::Refused(no, detail) => Bounded::Refused(no, detail),
-        Length::Done(low) => {
-            let high = n + 1 + trimmed_start(s);
-            if upper.len() < high {
-                return Bounded::Refused(format::NO_ROOM, high as u64);
-            }
-            put_start(words, pool, n, mark, s, lower);
-            match ends::strinc(&lower[..low], upper) {
-                Length::Refused(no, detail) => Bounded::Refused(no, detail),
-                Length::Done(end) => Bounded::Done(low, end),
-            }
-        }
+    let low = puts::room(lower.len(), 0, n + 1, starts::start_len(s))?;
+    let high = n + 1 + trimmed_start(s);
+    if upper.len() < high {
+        return Err(Refusal::NoRoom(high));
     }
+    put_start(words, pool, n, mark, s, lower);
+    let end = ends::strinc(&lower[..low], upper)?;
+    Ok(Ends {
+        lower: low,
+        upper: end,
+    })
 }
 
 // The ends of the keys of the type that have these first k fields and a next one that begins with the bytes of s.
@@ -127,22 +110,11 @@ pub fn starting_with(
     s: &[u8],
     lower: &mut [u8],
     upper: &mut [u8],
-) -> Bounded
+) -> Result<Ends, Refusal>
     ensures { BoundsLeft (prefix_call ty.now words.now pool.now s.now lower.old upper.old) result lower.new upper.new }
 {
-    match next_run(ty, words, pool) {
-        NextField::Refused(no) => Bounded::Refused(no, 0),
-        NextField::Run(mark) => {
-            let k = words[1] as u32;
-            match fit::fit_fields(ty, words, pool, 2, 2, 0, k, 0, false) {
-                Fitted::Refused(no, detail) => Bounded::Refused(no, detail),
-                Fitted::Fits {
-                    at: _,
-                    word: _,
-                    pool: _,
-                    len: n,
-                } => put_starts(words, pool, n, mark, s, lower, upper),
-            }
-        }
-    }
+    let mark = next_run(ty, words, pool)?;
+    let k = words[1] as u32;
+    let first = fit::fit_fields(ty, words, pool, 2, 2, 0, k, 0, false)?;
+    put_starts(words, pool, first.len, mark, s, lower, upper)
 }

@@ -1,21 +1,25 @@
 -- The parser's and the printer's answers, in keylist's terms.
-use Rattle.std.specs.Prelude.{ℕ, ◌+◌, ◌*◌, ◌≤◌, ◌<◌, ◌≡◌, true, List, [], ◌∷◌, ◌++◌, ltb, eqb, length, take, drop}
+use Rattle.std.specs.Prelude.{ℕ, ◌+◌, ◌-◌, ◌*◌, ◌≤◌, ◌<◌, ◌≡◌, true, List, [], ◌∷◌, ◌++◌, eqb, length, take, drop, Result, Ok, Err}
+use Rattle.std.specs.Prelude as std
 use Rattle.std.proofs.Math.Option.{Option, some, none}
 use Rattle.std.proofs.lemmas.List.Edits.{sets}
 use Rattle.format.specs.Answer.{if}
+use Rattle.format.specs.Refusals.{number_of, detail_of}
+use Rattle.format.specs.Utf8.{within}
 use Rattle.format.specs.TypeSheet.{is_some, type_of}
 use Rattle.format.specs.Keylist.{max_input, parts_of, type_in, key_in, lines_of, decimal, row, key_row, key_rows, no_type, keylist}
 use Rattle.keylines.specs.Reasons.{bad_word, in_text, reason}
+use Rattle.read.specs.declared.Refused.{Refused}
 use Rattle.keylines.specs.declared.first.First.{First}
-use Rattle.keylines.specs.declared.first.Reason.{Reason}
-use Rattle.keylines.specs.declared.first.Typed.{Typed}
-use Rattle.keylines.specs.declared.keys.Key.{Key}
 use Rattle.keylines.specs.declared.pieces.Left.{Left}
 use Rattle.keylines.specs.declared.pieces.Line.{Line}
 use Rattle.keylines.specs.declared.pieces.Piece.{Piece}
-use Rattle.keylines.specs.declared.pieces.Told.{Told}
-use Rattle.keylines.specs.declared.types.Word.{Word}
-use Rattle.keylines.specs.declared.types.Words.{Words}
+use Rattle.keylines.specs.declared.reason.Reason.{Reason}
+
+-- an answer of the code as keylist's definitions have it
+abbrev pub option_of : {A : Type 0} → std.Option A → Option A
+option_of (std.Some a) = some a
+option_of std.None = none
 
 -- a count of a buffer's first elements: both parts are said, so that lending `&buffer[..n]` asks nothing more
 abbrev pub Counts : ℕ → List ℕ → Type 0
@@ -40,15 +44,15 @@ pub record TypeRead (input buffer : List ℕ) (n : ℕ) (left : Left) : Type 0 w
   pub asked : PieceAsked input (take n buffer) left
   pub rows : keylist input ≡ rows_left (take n buffer) input left
 
-abbrev pub reason_is : First → Option Reason
-reason_is (First.Type n left) = none
-reason_is (First.None why) = some why
+abbrev pub reason_is : Result First Reason → Option Reason
+reason_is (Ok r) = none
+reason_is (Err why) = some why
 
-abbrev pub FirstIs : First → (input buffer : List ℕ) → Type 0
-FirstIs (First.Type n left) input buffer = TypeRead input buffer n left
-FirstIs (First.None why) input buffer = keylist input ≡ no_type
+abbrev pub FirstIs : Result First Reason → (input buffer : List ℕ) → Type 0
+FirstIs (Ok r) input buffer = TypeRead input buffer r.words r.left
+FirstIs (Err why) input buffer = keylist input ≡ no_type
 
-pub record FirstRead (input buffer : List ℕ) (r : First) : Type 0 where
+pub record FirstRead (input buffer : List ℕ) (r : Result First Reason) : Type 0 where
   pub why : reason_is r ≡ reason input
   pub is : FirstIs r input buffer
 
@@ -84,9 +88,14 @@ pub record Found (s : List ℕ) (at b r : ℕ) : Type 0 where
   pub from : at ≤ r
   pub within : r ≤ length s
 
-abbrev pub word_is : Word → Option ℕ
-word_is (Word.Is n) = some n
-word_is Word.Bad = none
+-- the same of an answer: None where there is none
+pub record FoundAt (s : List ℕ) (at b : ℕ) (r : std.Option ℕ) : Type 0 where
+  pub found : Found s at b (std.unwrap_or r (length s))
+  pub inside : (n : ℕ) → r ≡ std.Some n → n < length s
+
+-- a decimal digit
+abbrev pub decimal_digit : ℕ → Option ℕ
+decimal_digit b = if (within 0x30 0x39 b) (some (b - 0x30)) none
 
 -- more words than fit
 pub record TooMany (text buffer : List ℕ) : Type 0 where
@@ -94,12 +103,16 @@ pub record TooMany (text buffer : List ℕ) : Type 0 where
   pub are : type_in text ≡ some words
   pub many : length buffer < length words
 
-abbrev pub WordsAre : (text buffer : List ℕ) → Words → Type 0
-WordsAre text buffer (Words.Are n) = (type_in text ≡ some (take n buffer)) × Counts n buffer
-WordsAre text buffer Words.Many = TooMany text buffer
-WordsAre text buffer (Words.Bad place) = bad_word 1 (parts_of text) ≡ some place
+-- how many, all of which stand in the buffer; or the place of the first bad word; or that there is no room for them
+abbrev pub WordsAre : (text buffer : List ℕ) → Result ℕ Reason → Type 0
+WordsAre text buffer (Ok n) = (type_in text ≡ some (take n buffer)) × Counts n buffer
+WordsAre text buffer (Err Reason.TooLong) = ⊥
+WordsAre text buffer (Err Reason.NoLine) = ⊥
+WordsAre text buffer (Err Reason.CarriageReturn) = ⊥
+WordsAre text buffer (Err (Reason.BadWord place)) = bad_word 1 (parts_of text) ≡ some place
+WordsAre text buffer (Err Reason.NotAdmitted) = TooMany text buffer
 
-pub record WordsRead (text buffer : List ℕ) (r : Words) : Type 0 where
+pub record WordsRead (text buffer : List ℕ) (r : Result ℕ Reason) : Type 0 where
   pub are : WordsAre text buffer r
 
 -- the text of a line is of an admitted type, whose words stand at the buffer's front
@@ -108,32 +121,33 @@ pub record TypeTaken (text buffer : List ℕ) (n : ℕ) : Type 0 where
   pub words : type_in text ≡ some (take n buffer)
   pub admitted : is_some (type_of (take n buffer)) ≡ true
 
-abbrev pub TypedIs : (text buffer : List ℕ) → Typed → Type 0
-TypedIs text buffer (Typed.Words n) = (none ≡ in_text text) × TypeTaken text buffer n
-TypedIs text buffer (Typed.None why) = some why ≡ in_text text
+abbrev pub TypedIs : (text buffer : List ℕ) → Result ℕ Reason → Type 0
+TypedIs text buffer (Ok n) = (none ≡ in_text text) × TypeTaken text buffer n
+TypedIs text buffer (Err why) = some why ≡ in_text text
 
-pub record TypedRead (text buffer : List ℕ) (r : Typed) : Type 0 where
+pub record TypedRead (text buffer : List ℕ) (r : Result ℕ Reason) : Type 0 where
   pub is : TypedIs text buffer r
 
--- 16 is no digit
-abbrev pub digit_is : ℕ → Option ℕ
-digit_is d = if (ltb d 16) (some d) none
+abbrev pub key_is : std.Option ℕ → List ℕ → Option (List ℕ)
+key_is (std.Some n) buffer = some (take n buffer)
+key_is std.None buffer = none
 
-abbrev pub key_is : Key → List ℕ → Option (List ℕ)
-key_is (Key.Has n) buffer = some (take n buffer)
-key_is Key.Bad buffer = none
+abbrev pub key_counts : std.Option ℕ → List ℕ → Type 0
+key_counts (std.Some n) buffer = Counts n buffer
+key_counts std.None buffer = Unit
 
-abbrev pub key_counts : Key → List ℕ → Type 0
-key_counts (Key.Has n) buffer = Counts n buffer
-key_counts Key.Bad buffer = Unit
-
-pub record KeyRead (text after : List ℕ) (r : Key) : Type 0 where
+pub record KeyRead (text after : List ℕ) (r : std.Option ℕ) : Type 0 where
   pub is : key_is r after ≡ key_in text
   pub counts : key_counts r after
 
--- the numbers of the row of a line with this text, whatever its place
-pub record KeyTold (ty text : List ℕ) (r : Told) : Type 0 where
-  pub told : (place : ℕ) → key_row ty place (key_in text) ≡ row place r.no r.detail r.begun
+-- the row that tells an answer: the values begun, or the refusal as well
+abbrev pub row_of : (place : ℕ) → Result ℕ Refused → List ℕ
+row_of place (Ok begun) = row place 0 0 begun
+row_of place (Err e) = row place (number_of e.why) (detail_of e.why) e.begun
+
+-- what the row of a line with this text tells, whatever its place
+pub record KeyTold (ty text : List ℕ) (r : Result ℕ Refused) : Type 0 where
+  pub told : (place : ℕ) → key_row ty place (key_in text) ≡ row_of place r
 
 -- what the row of the line at a place asks for
 pub record LineAsked (input ty key : List ℕ) (at : ℕ) : Type 0 where
@@ -142,7 +156,7 @@ pub record LineAsked (input ty key : List ℕ) (at : ℕ) : Type 0 where
   pub left : at < length input
 
 pub record LineTold (ty input : List ℕ) (at : ℕ) (r : Line) : Type 0 where
-  pub rows : (place : ℕ) → key_rows ty place (lines_of (drop at input)) ≡ row place r.no r.detail r.begun ++ key_rows ty (place + 1) (lines_of (drop r.next input))
+  pub rows : (place : ℕ) → key_rows ty place (lines_of (drop at input)) ≡ row_of place r.told ++ key_rows ty (place + 1) (lines_of (drop r.next input))
   pub on : at < r.next
   pub within : r.next ≤ length input
 

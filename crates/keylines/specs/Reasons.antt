@@ -4,7 +4,7 @@ use Rattle.std.proofs.Math.Option.{Option, some, none}
 use Rattle.format.specs.Answer.{if}
 use Rattle.format.specs.TypeSheet.{is_some, type_of}
 use Rattle.format.specs.Keylist.{max_input, Line, lines_of, parts_of, word_of, type_in}
-use Rattle.keylines.specs.declared.first.Reason.{Reason}
+use Rattle.keylines.specs.declared.reason.Reason.{Reason}
 
 abbrev pub carriage_return : ℕ
 carriage_return = 0x0D

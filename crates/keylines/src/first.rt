@@ -5,76 +5,48 @@ ghost use Rattle.keylines.specs.Answers.{TypedRead, FirstRead};
 
 use crate::finding::find;
 use crate::pieces::Left;
-use crate::types::{Words, type_words};
+use crate::reason::Reason;
+use crate::types::type_words;
 
 // The longest input that is read.
 pub const MAX_INPUT: usize = 65536;
 
-// Why there is no type: the first of these that holds. A word's place is counted from 1.
+// How many words of an admitted type stand at the front of the buffer, and the key lines, which are counted from 1.
 #[derive(Clone, Copy)]
-pub enum Reason {
-    TooLong,
-    NoLine,
-    CarriageReturn,
-    BadWord(usize),
-    NotAdmitted,
+pub struct First {
+    pub words: usize,
+    pub left: Left,
 }
 
-// How many words of an admitted type stand at the front of the buffer.
-#[derive(Clone, Copy)]
-enum Typed {
-    Words(usize),
-    None(Reason),
-}
-
-// The same, and the key lines, which are counted from 1.
-#[derive(Clone, Copy)]
-pub enum First {
-    Type { words: usize, left: Left },
-    None(Reason),
-}
-
-// Reads the text of a type.
-fn read_type(text: &[u8], ty: &mut [u32]) -> Typed
+// Reads the text of a type: how many words of an admitted one stand at the front of the buffer.
+fn read_type(text: &[u8], ty: &mut [u32]) -> Result<usize, Reason>
     requires { max_type_words ≤ length ty.old }
     ensures { TypedRead text.now ty.new result }
 {
-    if find(text, 0, b'\r') < text.len() {
-        return Typed::None(Reason::CarriageReturn);
+    if find(text, 0, b'\r').is_some() {
+        return Err(Reason::CarriageReturn);
     }
-    match type_words(text, ty) {
-        Words::Bad(place) => Typed::None(Reason::BadWord(place)),
-        Words::Many => Typed::None(Reason::NotAdmitted),
-        Words::Are(n) => {
-            if sheet::admit_type(&ty[..n]) {
-                Typed::Words(n)
-            } else {
-                Typed::None(Reason::NotAdmitted)
-            }
-        }
+    let n = type_words(text, ty)?;
+    if sheet::admit_type(&ty[..n]) {
+        Ok(n)
+    } else {
+        Err(Reason::NotAdmitted)
     }
 }
 
 // Reads the first line of an input: the type goes into a buffer that has room for the longest.
-pub fn read_first(input: &[u8], ty: &mut [u32]) -> First
+pub fn read_first(input: &[u8], ty: &mut [u32]) -> Result<First, Reason>
     requires { max_type_words ≤ length ty.old }
     ensures { FirstRead input.now ty.new result }
 {
     if MAX_INPUT < input.len() {
-        return First::None(Reason::TooLong);
+        return Err(Reason::TooLong);
     }
-    let feed = find(input, 0, b'\n');
-    if feed == input.len() {
-        return First::None(Reason::NoLine);
-    }
-    match read_type(&input[..feed], ty) {
-        Typed::None(why) => First::None(why),
-        Typed::Words(n) => First::Type {
-            words: n,
-            left: Left {
-                at: feed + 1,
-                line: 1,
-            },
-        },
-    }
+    let feed = find(input, 0, b'\n').ok_or(Reason::NoLine)?;
+    let words = read_type(&input[..feed], ty)?;
+    let left = Left {
+        at: feed + 1,
+        line: 1,
+    };
+    Ok(First { words, left })
 }

@@ -4,9 +4,10 @@ ghost use Rattle.format.specs.TypeSheet.{is_some, type_of};
 ghost use Rattle.keylines.specs.Answers.{NoTypePut, KeyTold, LineAsked, LineTold, PieceAsked, PiecePut};
 
 use crate::finding::find;
-use crate::keys::{Key, pairs};
+use crate::keys::pairs;
 use crate::rows::put_row;
-use decode::CheckedKey;
+use decode::Refused;
+use format::Refusal;
 
 // Room for the longest key: two digits of the input make a byte.
 pub const KEY_ROOM: usize = 32768;
@@ -17,20 +18,16 @@ pub const PIECE_ROOM: usize = 16384;
 // No row is longer.
 const MAX_ROW: usize = 59;
 
-// The numbers of a key line's row behind its place.
-#[derive(Clone, Copy)]
-struct Told {
-    no: u32,
-    detail: u64,
-    begun: u64,
-}
+// A row with no value begun.
+const BAD_LINE: Refused = Refused {
+    why: Refusal::BadLine,
+    begun: 0,
+};
 
-// The same, and the place behind the line.
+// What a key line's row tells behind its place, and the place behind the line.
 #[derive(Clone, Copy)]
 struct Line {
-    no: u32,
-    detail: u64,
-    begun: u64,
+    told: Result<usize, Refused>,
     next: usize,
 }
 
@@ -49,30 +46,13 @@ pub struct Piece {
 }
 
 // What the row of a line with this text tells.
-fn tell_key(text: &[u8], ty: &[u32], key: &mut [u8]) -> Told
+fn tell_key(text: &[u8], ty: &[u32], key: &mut [u8]) -> Result<usize, Refused>
     requires typed { is_some (type_of ty.now) ≡ true }
     requires fits { length text.now ≤ 2 * length key.old }
     ensures { KeyTold ty.now text.now result }
 {
-    let Key::Has(n) = pairs(text, key) else {
-        return Told {
-            no: format::BAD_LINE,
-            detail: 0,
-            begun: 0,
-        };
-    };
-    match decode::check_admitted(ty, &key[..n]) {
-        CheckedKey::Accepted { begun } => Told {
-            no: 0,
-            detail: 0,
-            begun: begun as u64,
-        },
-        CheckedKey::Refused { no, detail, begun } => Told {
-            no,
-            detail,
-            begun: begun as u64,
-        },
-    }
+    let n = pairs(text, key).ok_or(BAD_LINE)?;
+    decode::check_admitted(ty, &key[..n])
 }
 
 // What the row of the line at a place tells. A last line that doesn't end with a line feed is bad.
@@ -80,21 +60,15 @@ fn tell_line(input: &[u8], at: usize, ty: &[u32], key: &mut [u8]) -> Line
     requires { LineAsked input.now ty.now key.old at }
     ensures { LineTold ty.now input.now at result }
 {
-    let feed = find(input, at, b'\n');
-    if feed == input.len() {
-        return Line {
-            no: format::BAD_LINE,
-            detail: 0,
-            begun: 0,
-            next: feed,
-        };
-    }
-    let told = tell_key(&input[at..feed], ty, key);
-    Line {
-        no: told.no,
-        detail: told.detail,
-        begun: told.begun,
-        next: feed + 1,
+    match find(input, at, b'\n') {
+        Some(feed) => Line {
+            told: tell_key(&input[at..feed], ty, key),
+            next: feed + 1,
+        },
+        None => Line {
+            told: Err(BAD_LINE),
+            next: input.len(),
+        },
     }
 }
 
@@ -109,27 +83,25 @@ pub fn put_piece(
     requires { PieceAsked input.now ty.now left }
     ensures { PiecePut ty.now input.now left piece.old piece.new result }
 {
-    let mut at = left.at;
-    let mut number = left.line;
-    let mut end = 0;
-    while at < input.len() {
-        if PIECE_ROOM - end < MAX_ROW {
-            break;
-        }
-        let told = tell_line(input, at, ty, key);
-        end = put_row(piece, end, number, told.no, told.detail, told.begun);
-        at = told.next;
-        number += 1;
+    let Left { mut at, mut line } = left;
+    let mut len = 0;
+    while at < input.len() && MAX_ROW <= PIECE_ROOM - len {
+        let row = tell_line(input, at, ty, key);
+        len = put_row(piece, len, line, row.told);
+        at = row.next;
+        line += 1;
     }
-    Piece {
-        len: end,
-        left: Left { at, line: number },
-    }
+    let left = Left { at, line };
+    Piece { len, left }
 }
 
 // Puts the row of no type.
 pub fn put_no_type(piece: &mut [u8; PIECE_ROOM]) -> usize
     ensures { NoTypePut piece.old piece.new result }
 {
-    put_row(piece, 0, 0, format::BAD_TYPE, 0, 0)
+    let no_type = Refused {
+        why: Refusal::BadType,
+        begun: 0,
+    };
+    put_row(piece, 0, 0, Err(no_type))
 }

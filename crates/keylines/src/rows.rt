@@ -1,14 +1,9 @@
 // A row of what is written: four numbers in decimal, parted by tabs, and a line feed.
 ghost use Rattle.std.specs.Prelude.{◌≡◌, ◌+◌, ◌≤◌, ◌<◌, length};
-ghost use Rattle.format.specs.Keylist.{decimal, row};
-ghost use Rattle.keylines.specs.Answers.{Put, NumberPut};
+ghost use Rattle.format.specs.Keylist.{decimal};
+ghost use Rattle.keylines.specs.Answers.{Put, NumberPut, row_of};
 
-fn narrow(x: u64) -> u8
-    requires { x < 256 }
-    ensures { result ≡ x }
-{
-    x as u8
-}
+use decode::Refused;
 
 // A number's digits.
 fn put_decimal(out: &mut [u8], at: usize, n: u64) -> usize
@@ -16,11 +11,11 @@ fn put_decimal(out: &mut [u8], at: usize, n: u64) -> usize
     ensures { Put out.old out.new at result (decimal n) }
 {
     if n < 10 {
-        out[at] = b'0' + narrow(n);
+        out[at] = b'0' + n as u8;
         return at + 1;
     }
     let end = put_decimal(out, at, n / 10);
-    out[end] = b'0' + narrow(n % 10);
+    out[end] = b'0' + (n % 10) as u8;
     end + 1
 }
 
@@ -35,12 +30,16 @@ fn put_number(out: &mut [u8], at: usize, n: u64, behind: u8) -> usize
 }
 
 // The row of a line: its place, refusal, detail and values begun.
-pub fn put_row(out: &mut [u8], at: usize, place: u64, no: u32, detail: u64, begun: u64) -> usize
-    requires { at + length (row place no detail begun) ≤ length out.old }
-    ensures { Put out.old out.new at result (row place no detail begun) }
+pub fn put_row(out: &mut [u8], at: usize, place: u64, told: Result<usize, Refused>) -> usize
+    requires { at + length (row_of place told) ≤ length out.old }
+    ensures { Put out.old out.new at result (row_of place told) }
 {
+    let (no, detail, begun) = match told {
+        Ok(begun) => (0, 0, begun),
+        Err(Refused { why, begun }) => (why.number(), why.detail(), begun),
+    };
     let a = put_number(out, at, place, b'\t');
-    let b = put_number(out, a, no as u64, b'\t');
+    let b = put_number(out, a, u64::from(no), b'\t');
     let c = put_number(out, b, detail, b'\t');
-    put_number(out, c, begun, b'\n')
+    put_number(out, c, begun as u64, b'\n')
 }

@@ -2,83 +2,78 @@
 // where its key lies between the tank's two ends. Then the same for tags that end in a zero.
 #![tactic(auto)]
 
-use blocks::Order;
-use encode::Encoded;
-use key::Bounded;
-
-fn below(a: &[u8], b: &[u8]) -> bool {
-    match blocks::compare(a, b) {
-        Order::Less => true,
-        Order::Equal => false,
-        Order::Greater => false,
-    }
-}
+use show::{Hex, first};
+use std::io;
 
 // The answer for one batch, with its reason.
-fn verdict(batch: &[u8], lower: &[u8], upper: &[u8]) {
-    show::text(b"  batch ");
-    show::bytes(batch, batch.len());
-    if below(batch, lower) {
-        show::text(b" may not be dosed: its key is below the tank's lower end ");
-        show::line(lower, lower.len());
-        return;
+fn verdict(rt: &impl Print, batch: &[u8], lower: &[u8], upper: &[u8]) -> io::Result<()> {
+    print!(rt; "  batch {}", Hex(batch))?;
+    if blocks::compare(batch, lower).is_lt() {
+        println!(rt;
+            " may not be dosed: its key is below the tank's lower end {}",
+            Hex(lower)
+        )
+    } else if blocks::compare(batch, upper).is_lt() {
+        println!(rt;
+            " may be dosed: its key lies from {} up to {}",
+            Hex(lower),
+            Hex(upper)
+        )
+    } else {
+        println!(rt;
+            " may not be dosed: its key is not below the tank's upper end {}",
+            Hex(upper)
+        )
     }
-    if below(batch, upper) {
-        show::text(b" may be dosed: its key lies from ");
-        show::bytes(lower, lower.len());
-        show::text(b" up to ");
-        show::line(upper, upper.len());
-        return;
-    }
-    show::text(b" may not be dosed: its key is not below the tank's upper end ");
-    show::line(upper, upper.len());
 }
 
 // Both batches against the ends that the bounds call gives for the tank's own key and its first field, the tag.
-fn ask(tank: &[u8], first: &[u8], second: &[u8]) {
+fn ask(rt: &impl Print, tank: &[u8], batches: [&[u8]; 2]) -> io::Result<()> {
     let mut lower = [0u8; 32];
     let mut upper = [0u8; 32];
     match key::bounds(&[5, 2, 3, 1], tank, 1, &mut lower, &mut upper) {
-        Bounded::Refused(no, detail) => show::refusal(no, detail),
-        Bounded::Done(low, high) => {
-            verdict(first, show::first(&lower, low), show::first(&upper, high));
-            verdict(second, show::first(&lower, low), show::first(&upper, high));
+        Err(e) => println!(rt; "{e}"),
+        Ok(ends) => {
+            for batch in batches {
+                verdict(
+                    rt,
+                    batch,
+                    first(&lower, ends.lower),
+                    first(&upper, ends.upper),
+                )?;
+            }
+            Ok(())
         }
     }
 }
 
-// A key's length in its buffer, 0 for a refused one, which is printed.
-fn key_len(tag: &[u8], number: u64, out: &mut [u8]) -> usize {
-    match encode::encode_key(
-        &[5, 2, 3, 1],
-        &[5, 2, 3, tag.len() as u64, 1, number],
-        tag,
-        out,
-    ) {
-        Encoded::Refused(no, detail) => {
-            show::refusal(no, detail);
-            0
-        }
-        Encoded::Done { length, zeros: _ } => length,
-    }
+// A key's bytes in its buffer, none of a refused one, which is printed.
+fn key<'a>(
+    rt: &impl Print,
+    tag: &[u8],
+    number: u64,
+    out: &'a mut [u8; 32],
+) -> io::Result<&'a [u8]> {
+    let words = [5, 2, 3, tag.len() as u64, 1, number];
+    let r = encode::encode_key(&[5, 2, 3, 1], &words, tag, out);
+    show::wrote(rt, r.map(|done| done.length), out)
 }
 
 // A tank by its tag, and two batches by theirs, with the numbers 7 and 8.
-fn question(tank: &[u8], first: &[u8], second: &[u8]) {
+fn question(rt: &impl Print, tank: &[u8], first: &[u8], second: &[u8]) -> io::Result<()> {
     let mut own = [0u8; 32];
     let mut a = [0u8; 32];
     let mut b = [0u8; 32];
-    let k = key_len(tank, 0, &mut own);
-    let m = key_len(first, 7, &mut a);
-    let n = key_len(second, 8, &mut b);
-    show::text(b"tank ");
-    show::line(tank, tank.len());
-    ask(show::first(&own, k), show::first(&a, m), show::first(&b, n));
+    let own = key(rt, tank, 0, &mut own)?;
+    let a = key(rt, first, 7, &mut a)?;
+    let b = key(rt, second, 8, &mut b)?;
+    println!(rt; "tank {}", Hex(tank))?;
+    ask(rt, own, [a, b])
 }
 
-fn main() {
-    question(b"\x0a", b"\x0a", b"\x0b");
-    question(b"\x0a", b"\x0a", b"\x0a\x00");
-    question(b"\x0a\x00", b"\x0a", b"\x0a\x00");
-    question(b"\x0a\x00", b"\x0a\x00\x00", b"\x0a\x00");
+fn main(rt: HostRuntime) -> io::Result<()> {
+    question(&rt, b"\x0a", b"\x0a", b"\x0b")?;
+    question(&rt, b"\x0a", b"\x0a", b"\x0a\x00")?;
+    question(&rt, b"\x0a\x00", b"\x0a", b"\x0a\x00")?;
+    question(&rt, b"\x0a\x00", b"\x0a\x00\x00", b"\x0a\x00")
 }

@@ -7,14 +7,15 @@ use native.Mathlib.Omega.{arith}
 use lib.Dec.{ltb}
 use lib.ListN.{length, get_or, take, drop, length-drop}
 use lib.Seq.{drop-drop}
+use Rattle.std.specs.Prelude.{Result, Ok, Err}
 use Rattle.format.specs.Answer.{if}
 use Rattle.format.specs.Tree.{Ty, Val}
 use Rattle.format.specs.Sheet.{val_words, val_pool}
 use Rattle.format.specs.Read.{Read, got, bad, starts_ff, null_at}
 use Rattle.format.specs.Decode.{Decoded, decode, blank_or}
 use Rattle.format.specs.Skip.{end_of}
-use Rattle.format.specs.Lengths.{length_in}
-use Rattle.format.specs.declared.Length.{Length}
+use Rattle.format.specs.Refusals.{answered}
+use Rattle.format.specs.declared.refusal.Refusal.{Refusal}
 use Rattle.format.proofs.Tests.{eqb_test, passed}
 use Rattle.format.proofs.TypePlaces.{TypeIn}
 use Rattle.format.proofs.TypeKinds.{kind_here, optional_here, plain_kind}
@@ -22,9 +23,9 @@ use Rattle.sheet.specs.Places.{SkipsType}
 use Rattle.scalar.proofs.Parts.{part_rest}
 use Rattle.scalar.proofs.Reading.{Front, Took, front_drop, no_got, end_took, end_refuses}
 use Rattle.scalar.proofs.GroupLaws.{null_depth}
-use Rattle.read.specs.Walk.{TypeAt, ValueWalk}
+use Rattle.read.specs.Walk.{TypeAt, ValueWalk, good}
 use Rattle.read.specs.declared.Walked.{Walked}
-use Rattle.read.specs.declared.Walked.TheVariants.{Good}
+use Rattle.read.specs.declared.Refused.{Refused}
 use Rattle.read.proofs.AnswerLaws.{accept, wider}
 
 -- ---- the null itself
@@ -45,17 +46,17 @@ null_front depth (m ∷ s) u r p =
     go false s e = let k : s ≡ r = cc in rw (← k) (front_drop (m ∷ s) 1 (omega arith) (omega arith))
 
 -- what the step answered, where the escape is due inside a group
-abbrev NullStep : List ℕ → ℕ → ℕ → Length → Type 0
-NullStep bytes i depth o = length_in o ≡ end_of (take (length bytes - i) (drop i bytes)) (null_at (if (ltb 0 depth) 1 0) (take (length bytes - i) (drop i bytes)))
+abbrev NullStep : List ℕ → ℕ → ℕ → Result ℕ Refusal → Type 0
+NullStep bytes i depth o = answered o ≡ end_of (take (length bytes - i) (drop i bytes)) (null_at (if (ltb 0 depth) 1 0) (take (length bytes - i) (drop i bytes)))
 
-null_here : (bytes : List ℕ) (i depth : ℕ) (o : Length) → NullStep bytes i depth o → length_in o ≡ end_of (drop i bytes) (null_at depth (drop i bytes))
+null_here : (bytes : List ℕ) (i depth : ℕ) (o : Result ℕ Refusal) → NullStep bytes i depth o → answered o ≡ end_of (drop i bytes) (null_at depth (drop i bytes))
 null_here bytes i depth o h = rw (part_rest i bytes, null_depth depth (drop i bytes)) at h
 
-module _ (bytes : List ℕ) (i depth : ℕ) {o : Length} (h : NullStep bytes i depth o) where
-  null_took : {used : ℕ} → o ≡ Length.Done used → Took (drop i bytes) (null_at depth (drop i bytes)) tt used
+module _ (bytes : List ℕ) (i depth : ℕ) {o : Result ℕ Refusal} (h : NullStep bytes i depth o) where
+  null_took : {used : ℕ} → o ≡ Ok used → Took (drop i bytes) (null_at depth (drop i bytes)) tt used
   null_took e = end_took (drop i bytes) (null_front depth (drop i bytes)) (rw e at (null_here bytes i depth o h))
 
-  pub null_room : {used : ℕ} → i ≤ length bytes → o ≡ Length.Done used → i + used ≤ length bytes
+  pub null_room : {used : ℕ} → i ≤ length bytes → o ≡ Ok used → i + used ≤ length bytes
   null_room l e = omega (arith, (null_took e).within, length-drop i bytes)
 
 -- an optional type in the definition
@@ -66,8 +67,8 @@ optional_is t s k bytes i depth = ap (λ (u : Ty). decode u depth (drop i bytes)
 
 -- ---- a blank, and the place to go on at
 
-module _ {ty : List ℕ} {at : ℕ} {bytes : List ℕ} {i depth : ℕ} (k : get_or ty at 0 ≡ 7) {o : Length} (h : NullStep bytes i depth o) where
-  pub v_blank : {asked : Bool} {used a : ℕ} {r : Walked} → i ≤ length bytes → o ≡ Length.Done used → (asked ≡ true → SkipsType ty at a) → r ≡ Good a (i + used) 1 0 1
+module _ {ty : List ℕ} {at : ℕ} {bytes : List ℕ} {i depth : ℕ} (k : get_or ty at 0 ≡ 7) {o : Result ℕ Refusal} (h : NullStep bytes i depth o) where
+  pub v_blank : {asked : Bool} {used a : ℕ} {r : Result Walked Refused} → i ≤ length bytes → o ≡ Ok used → (asked ≡ true → SkipsType ty at a) → r ≡ Ok (good a (i + used) 1 0 1)
       → ValueWalk ty at bytes i depth asked r
   unfolding val_pool val_words
   v_blank {used = used} l e skips q = rw q (record {
@@ -98,7 +99,7 @@ pub data Peeled (ty : List ℕ) (at : ℕ) (bytes : List ℕ) (i depth place : �
   filled : {n d : ℕ} → get_or ty at 0 ≡ 7 → null_at depth (drop i bytes) ≡ bad n d → place ≡ at + 1 → Peeled ty at bytes i depth place
 
 module _ {ty : List ℕ} {at : ℕ} {bytes : List ℕ} {i depth place : ℕ} where
-  pub p_filled : get_or ty at 0 ≡ 7 → {o : Length} → NullStep bytes i depth o → {n d : ℕ} → o ≡ Length.Refused n d → place ≡ at + 1 → Peeled ty at bytes i depth place
+  pub p_filled : get_or ty at 0 ≡ 7 → {o : Result ℕ Refusal} → NullStep bytes i depth o → {e : Refusal} → o ≡ Err e → place ≡ at + 1 → Peeled ty at bytes i depth place
   p_filled k {o} h e p = filled k (end_refuses (drop i bytes) (rw e at (null_here bytes i depth o h))) p
 
   -- what the walk under the type there asks
@@ -109,7 +110,7 @@ module _ {ty : List ℕ} {at : ℕ} {bytes : List ℕ} {i depth place : ℕ} whe
       rw p (record { t = z.filled; end = g.end; here = z.behind; deep = omega (arith, z.deep, g.deep) }, omega (arith, plain_kind z.filled z.behind z.plain), omega arith)
 
   -- its answer is that of the whole type
-  pub p_value : Peeled ty at bytes i depth place → {asked : Bool} {r : Walked} → ValueWalk ty place bytes i depth asked r → ValueWalk ty at bytes i depth asked r
+  pub p_value : Peeled ty at bytes i depth place → {asked : Bool} {r : Result Walked Refused} → ValueWalk ty place bytes i depth asked r → ValueWalk ty at bytes i depth asked r
   p_value (plain k p) {asked} {r} v = subst (λ (x : ℕ). ValueWalk ty x bytes i depth asked r) p v
   p_value (filled k q p) {asked} {r} v = record {
     walk = λ t end s deep.

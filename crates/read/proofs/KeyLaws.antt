@@ -6,6 +6,7 @@ use Prim.Native.Nat.{ℕ, ◌^◌, ◌≤◌, ◌<◌}
 use native.Mathlib.Nat.{zero-add}
 use native.Mathlib.Omega.{arith}
 use lib.ListN.{length, get_or}
+use Rattle.std.specs.Prelude.{Result}
 use Rattle.format.specs.Tree.{Ty, Val}
 use Rattle.format.specs.Sheet.{ty_words, tys_words, val_words, val_pool}
 use Rattle.format.specs.TypeSheet.{max_groups, nesting}
@@ -14,6 +15,7 @@ use Rattle.format.proofs.TypePlaces.{TypeIn}
 use Rattle.format.proofs.TypeKinds.{record_here}
 use Rattle.read.specs.Walk.{TypeAt, FieldsAt, Walks, FieldWalk, BareWalk, Small, read_bare, val_sizes, vals_sizes, plus}
 use Rattle.read.specs.declared.Walked.{Walked}
+use Rattle.read.specs.declared.Refused.{Refused}
 use Rattle.read.proofs.AnswerLaws.{plus_law, is_small}
 
 module _ {ty : List ℕ} (g : TypeAt ty 0) (k : get_or ty 0 0 ≡ 5) where
@@ -23,7 +25,7 @@ module _ {ty : List ℕ} (g : TypeAt ty 0) (k : get_or ty 0 0 ≡ 5) where
       let z = record_here g.t g.here k in
       (z.second, record { ts = z.ts; end = g.end; here = z.fields; count = z.count; deep = omega (arith, z.deep, g.deep) })
 
-module _ {ty bytes : List ℕ} (k : get_or ty 0 0 ≡ 5) {r : Walked} (f : FieldWalk ty 2 (get_or ty 1 0) bytes 0 0 false r) where
+module _ {ty bytes : List ℕ} (k : get_or ty 0 0 ≡ 5) {r : Result Walked Refused} (f : FieldWalk ty 2 (get_or ty 1 0) bytes 0 0 false r) where
   fields : (t : Ty) (e : ℕ) (s : TypeIn ty 0 t e) → nesting t ≤ max_groups
       → Walks vals_sizes bytes 0 false e (length (tys_words (record_here t s k).ts)) r (decode_bare (record_here t s k).ts bytes)
   fields t e s deep = let z = record_here t s k in f.walk z.ts e (λ y. z.fields) (λ y. z.fields) z.count (omega (arith, z.deep))

@@ -7,6 +7,7 @@ use Prim.Native.Nat.{ℕ, ◌+◌, ◌-◌, ◌≤◌, ◌<◌}
 use native.Mathlib.Omega.{arith}
 use lib.Dec.{eqb}
 use lib.ListN.{length, length-append}
+use Rattle.std.specs.Prelude.{None, Some}
 use Rattle.format.specs.Tree.{Ty, Tys, Alts, Val}
 use Rattle.format.specs.Sheet.{ty_words, tys_words, alts_words, field_count, alt_count}
 use Rattle.format.specs.TypeSheet.{max_groups, nesting, nestings, alt_nestings}
@@ -85,36 +86,36 @@ pub record Picked (ty : List ℕ) (at tag place left : ℕ) (us : Alts) (e : ℕ
   pub later : at < place
   pub meaning : (depth : ℕ) (bs : List ℕ) → decode_union us depth tag bs ≡ after 1 (Val.Union tag) (union_end (decode t (depth + 1) bs))
 
-module _ {ty : List ℕ} {at tag place left : ℕ} (h : Picks ty at tag place left) (us : Alts) {e : ℕ} (s : TypeIn ty at (Ty.Union us) e) (d : nesting (Ty.Union us) ≤ max_groups) where
-  pub missing : place ≡ 0 → (depth : ℕ) (bs : List ℕ) → decode_union us depth tag bs ≡ Decoded.bad UnknownDiscriminant tag 1
-  missing z depth bs = go (choose tag us) (decode_chosen us depth tag bs) (h.picks us e s d)
+module _ {ty : List ℕ} {at tag left : ℕ} (us : Alts) {e : ℕ} (s : TypeIn ty at (Ty.Union us) e) (d : nesting (Ty.Union us) ≤ max_groups) where
+  pub missing : Picks ty at tag None left → (depth : ℕ) (bs : List ℕ) → decode_union us depth tag bs ≡ Decoded.bad UnknownDiscriminant tag 1
+  missing h depth bs = go (choose tag us) (decode_chosen us depth tag bs) (h.picks us e s d)
     where
       go : (o : Option (Ty × Alts)) → decode_union us depth tag bs ≡ chosen o (λ t. after 1 (Val.Union tag) (union_end (decode t (depth + 1) bs))) (Decoded.bad UnknownDiscriminant tag 1)
-          → Chosen ty e place left o → decode_union us depth tag bs ≡ Decoded.bad UnknownDiscriminant tag 1
-      go (some c) f k = absurd (omega (arith, k.0))
+          → Chosen ty e None left o → decode_union us depth tag bs ≡ Decoded.bad UnknownDiscriminant tag 1
+      go (some c) f k = absurd k
       go none f k = f
 
-  pub picked : (place ≡ 0 → ⊥) → Picked ty at tag place left us e
+  pub picked : {place : ℕ} → Picks ty at tag (Some place) left → Picked ty at tag place left us e
   unfolding nesting ty_words
-  picked nz = go (choose tag us) refl (λ depth bs. decode_chosen us depth tag bs) (h.picks us e s d)
+  picked {place} h = go (choose tag us) refl (λ depth bs. decode_chosen us depth tag bs) (h.picks us e s d)
     where
       go : (o : Option (Ty × Alts)) → choose tag us ≡ o
           → ((depth : ℕ) (bs : List ℕ) → decode_union us depth tag bs ≡ chosen o (λ t. after 1 (Val.Union tag) (union_end (decode t (depth + 1) bs))) (Decoded.bad UnknownDiscriminant tag 1))
-          → Chosen ty e place left o → Picked ty at tag place left us e
+          → Chosen ty e (Some place) left o → Picked ty at tag place left us e
       go (some c) q f k =
           let m = chosen_nesting us tag c q in
           let l = chosen_long tag us c q in
           record {
             t = c.0;
             more = c.1;
-            end = k.1;
-            here = k.2;
-            behind = k.3;
-            count = k.4;
+            end = k.0;
+            here = k.1;
+            behind = k.2;
+            count = k.3;
             deep = omega (arith, m.0);
             deeps = omega (arith, m.1);
             on = omega (arith, s.span.long);
-            later = omega (arith, k.2.span.long, k.3.span.long, s.span.long);
+            later = omega (arith, k.1.span.long, k.2.span.long, s.span.long);
             meaning = f;
           }
-      go none q f k = absurd (nz k)
+      go none q f k = let z : ◌≡◌ {A = ℕ} 0 1 = cc in absurd (omega arith)

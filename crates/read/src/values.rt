@@ -85,22 +85,38 @@ pub fn walk_fields(
         begun: 0,
     };
     for done in 0..n {
-        let begun = sum.begun;
-        field_refusal(bytes, sum.next, depth).map_err(|why| Refused { why, begun })?;
+        if let Err(why) = field_refusal(bytes, sum.next, depth) {
+            return Err(Refused {
+                why,
+                begun: sum.begun,
+            });
+        }
         // a name of its own, so that what was lent is read by halves, as it was handed over
         let key = bytes;
-        let more_asked = sheet::asks(n - done, asked);
-        let field = walk_value(ty, sum.at, key, sum.next, depth, more_asked).map_err(|e| e.after(
-            begun,
-        ))?;
-        sum = Walked {
-            words: sum.words + field.words,
-            pool: sum.pool + field.pool,
-            begun: begun + field.begun,
-            ..field
-        };
+        match walk_value(
+            ty,
+            sum.at,
+            key,
+            sum.next,
+            depth,
+            sheet::asks(n - done, asked),
+        ) {
+            Err(refused) => return Err(refused.after(sum.begun)),
+            Ok(field) => {
+                sum = Walked {
+                    words: sum.words + field.words,
+                    pool: sum.pool + field.pool,
+                    begun: sum.begun + field.begun,
+                    ..field
+                };
+            }
+        }
     }
-    let begun = sum.begun;
-    let next = fields_end(bytes, sum.next, depth).map_err(|why| Refused { why, begun })?;
-    Ok(Walked { next, ..sum })
+    match fields_end(bytes, sum.next, depth) {
+        Err(why) => Err(Refused {
+            why,
+            begun: sum.begun,
+        }),
+        Ok(next) => Ok(Walked { next, ..sum }),
+    }
 }

@@ -17,30 +17,20 @@ pub fn lent_words() -> [u64; 8192] {
 pub fn room(line: &[u8], number: usize, buf: &[u8; 72000]) -> usize
     ensures { Counts result buf.now }
 {
-    let all: &[u8] = buf;
-    let n = lines::size(line, number);
-    if n < all.len() { n } else { all.len() }
+    lines::size(line, number).min(72000)
 }
 
 pub fn word_room(line: &[u8], number: usize, buf: &[u64; 8192]) -> usize
     ensures { Counts result buf.now }
 {
-    let all: &[u64] = buf;
-    let n = lines::size(line, number);
-    if n < all.len() { n } else { all.len() }
+    lines::size(line, number).min(8192)
 }
 
 // Does a buffer hold EE outside these places?
 fn untouched(buf: &[u8; 72000], at: usize, end: usize) -> bool {
-    let mut all = true;
-    for i in 0..72000 {
-        if i < at || end <= i {
-            if buf[i] != 0xee {
-                all = false;
-            }
-        }
-    }
-    all
+    buf.iter()
+        .enumerate()
+        .all(|(i, b)| *b == 0xee || (at <= i && i < end))
 }
 
 // Does a field list the bytes between two places of a buffer?
@@ -54,15 +44,7 @@ pub fn written(line: &[u8], number: usize, at: usize, end: usize, buf: &[u8; 720
 }
 
 fn untouched_words(buf: &[u64; 8192], from: usize) -> bool {
-    let mut all = true;
-    for i in 0..8192 {
-        if from <= i {
-            if buf[i] != 0xeeee_eeee_eeee_eeee {
-                all = false;
-            }
-        }
-    }
-    all
+    buf.iter().skip(from).all(|w| *w == 0xeeee_eeee_eeee_eeee)
 }
 
 pub fn written_words(line: &[u8], number: usize, n: usize, buf: &[u64; 8192]) -> bool {

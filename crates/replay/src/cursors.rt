@@ -2,7 +2,9 @@
 // is_record_end: bytes place depth = refusal detail ends 0. take_str, take_bytes: bytes place depth room-of-scratch = refusal detail source place-of-the-part
 // length place depth payload. put_null, put_record, put_end: room place depth; put_union: room place depth discriminant = refusal detail 0 place depth bytes.
 use crate::answers;
-use cursor::{Cursor, TakenPart};
+use cursor::Cursor;
+use format::Refusal;
+use scalar::Place;
 use tuple::cursors;
 use tuple::steps::{CursorStep, PartStep};
 
@@ -14,16 +16,16 @@ fn stepped(line: &[u8], first: usize, s: CursorStep) -> bool {
     )
 }
 
-pub fn step(line: &[u8], call: usize, bytes: &[u8]) -> bool {
+pub fn step(line: &[u8], call: &[u8], bytes: &[u8]) -> bool {
     let at = lines::size(line, 2);
     let depth = lines::size(line, 3);
     let s = match call {
-        20 => cursors::tuple_take_null(bytes, at, depth),
-        21 => cursors::tuple_take_i64(bytes, at, depth),
-        22 => cursors::tuple_take_u64(bytes, at, depth),
-        23 => cursors::tuple_take_fact_id(bytes, at, depth),
-        24 => cursors::tuple_open_record(bytes, at, depth),
-        25 => cursors::tuple_open_union(bytes, at, depth),
+        b"take_null" => cursors::tuple_take_null(bytes, at, depth),
+        b"take_i64" => cursors::tuple_take_i64(bytes, at, depth),
+        b"take_u64" => cursors::tuple_take_u64(bytes, at, depth),
+        b"take_fact_id" => cursors::tuple_take_fact_id(bytes, at, depth),
+        b"open_record" => cursors::tuple_open_record(bytes, at, depth),
+        b"open_union" => cursors::tuple_open_union(bytes, at, depth),
         _ => cursors::tuple_close(bytes, at, depth),
     };
     stepped(line, 5, s)
@@ -34,17 +36,20 @@ pub fn record_end(line: &[u8], bytes: &[u8]) -> bool {
     answers::is_number(line, 5, a)
 }
 
-// Where the payload is, for the picker.
-fn part(s: PartStep) -> TakenPart {
+// Where the payload is, for the picker, to which all refusals are alike.
+fn part(s: PartStep) -> Result<(Place, Cursor), Refusal> {
     let c = Cursor {
         at: s.at as usize,
         depth: narrow(s.depth as usize),
     };
-    let source = s.source;
-    match source {
-        1 => TakenPart::InKey(s.part as usize, s.len as usize, c),
-        2 => TakenPart::InScratch(s.len as usize, c),
-        _ => TakenPart::Refused(s.refusal, s.detail),
+    let len = s.len as usize;
+    match s.source {
+        1 => {
+            let at = s.part as usize;
+            Ok((Place::InKey { at, len }, c))
+        }
+        2 => Ok((Place::InScratch { len }, c)),
+        _ => Err(Refusal::UnexpectedEof),
     }
 }
 
@@ -95,14 +100,14 @@ fn wrote(line: &[u8], first: usize, s: CursorStep, out: &[u8; 72000]) -> bool {
         )
 }
 
-pub fn put(line: &[u8], call: usize) -> bool {
+pub fn put(line: &[u8], call: &[u8]) -> bool {
     let mut out = answers::lent();
     let n = answers::room(line, 1, &out);
     let at = lines::size(line, 2);
     let depth = lines::size(line, 3);
     let s = match call {
-        30 => cursors::tuple_put_null(&mut out[..n], at, depth),
-        31 => cursors::tuple_put_record(&mut out[..n], at, depth),
+        b"put_null" => cursors::tuple_put_null(&mut out[..n], at, depth),
+        b"put_record" => cursors::tuple_put_record(&mut out[..n], at, depth),
         _ => cursors::tuple_put_end(&mut out[..n], at, depth),
     };
     wrote(line, 5, s, &out)
@@ -110,10 +115,7 @@ pub fn put(line: &[u8], call: usize) -> bool {
 
 // The list's discriminants are below 2^32, and a depth is; another disagrees with its line.
 fn narrow(n: usize) -> u32 {
-    if n < 0x1_0000_0000 {
-        return n as u32;
-    }
-    0
+    u32::try_from(n).unwrap_or(0)
 }
 
 pub fn put_union(line: &[u8]) -> bool {

@@ -1,7 +1,8 @@
 // get_i64, get_u64: bytes = refusal detail value used. get_str, get_bytes: bytes room-of-scratch = refusal detail source place length used payload.
 // put_i64, put_u64, put_fact_id: room place word; put_str, put_bytes: room place bytes = refusal detail place-behind bytes.
 use crate::answers;
-use scalar::GotPart;
+use format::Refusal;
+use scalar::{Place, Taken};
 use tuple::answers::Part;
 use tuple::fields;
 
@@ -14,14 +15,19 @@ pub fn integer(line: &[u8], signed: bool, bytes: &[u8]) -> bool {
     answers::is_number(line, 3, a)
 }
 
-// Where the payload is, for the picker.
-fn part(a: Part) -> GotPart {
-    let source = a.source;
-    match source {
-        1 => GotPart::InKey(a.at as usize, a.len as usize, a.used as usize),
-        2 => GotPart::InScratch(a.len as usize, a.used as usize),
-        _ => GotPart::Refused(a.refusal, a.detail),
-    }
+// Where the payload is, for the picker, to which all refusals are alike.
+fn part(a: Part) -> Result<Taken<Place>, Refusal> {
+    let len = a.len as usize;
+    let used = a.used as usize;
+    let value = match a.source {
+        1 => {
+            let at = a.at as usize;
+            Place::InKey { at, len }
+        }
+        2 => Place::InScratch { len },
+        _ => return Err(Refusal::UnexpectedEof),
+    };
+    Ok(Taken { value, used })
 }
 
 fn handed<'a>(line: &[u8], a: Part, bytes: &'a [u8], scratch: &'a [u8; 72000]) -> bool {
@@ -57,22 +63,22 @@ pub fn payload(line: &[u8], text: bool, bytes: &[u8]) -> bool {
 }
 
 // A word or a payload put by the call of a number.
-fn put_by(line: &[u8], call: usize, payload: &[u8]) -> bool {
+fn put_by(line: &[u8], call: &[u8], payload: &[u8]) -> bool {
     let mut out = answers::lent();
     let n = answers::room(line, 1, &out);
     let at = lines::size(line, 2);
     let word = lines::size(line, 3) as u64;
     let a = match call {
-        15 => fields::tuple_put_i64(&mut out[..n], at, word),
-        16 => fields::tuple_put_u64(&mut out[..n], at, word),
-        17 => fields::tuple_put_fact_id(&mut out[..n], at, word),
-        18 => fields::tuple_put_str(&mut out[..n], at, payload),
+        b"put_i64" => fields::tuple_put_i64(&mut out[..n], at, word),
+        b"put_u64" => fields::tuple_put_u64(&mut out[..n], at, word),
+        b"put_fact_id" => fields::tuple_put_fact_id(&mut out[..n], at, word),
+        b"put_str" => fields::tuple_put_str(&mut out[..n], at, payload),
         _ => fields::tuple_put_bytes(&mut out[..n], at, payload),
     };
     answers::wrote(line, 5, a, at, &out)
 }
 
-pub fn put(line: &[u8], call: usize) -> bool {
+pub fn put(line: &[u8], call: &[u8]) -> bool {
     let mut payload = [0; 72000];
     let p = lines::bytes(line, 3, &mut payload);
     put_by(line, call, &payload[..p])

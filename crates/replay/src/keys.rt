@@ -2,6 +2,7 @@
 // length bytes. bounds: type key k room-of-lower room-of-upper = refusal detail lengths ends. span: type, words and pool of the first values, of the lowest
 // and of the highest, room-of-lower room-of-upper = refusal detail lengths ends. replace: type buffer used field words pool = refusal detail length buffer.
 use crate::answers;
+use std::cmp::Ordering;
 use tuple::answers::{Ends, Order};
 use tuple::keys;
 
@@ -15,13 +16,11 @@ fn order(a: Order) -> u64 {
     if a.refusal != 0 {
         return 0;
     }
-    if a.order < 0 {
-        return 0;
+    match a.order.cmp(&0) {
+        Ordering::Less => 0,
+        Ordering::Equal => 1,
+        Ordering::Greater => 2,
     }
-    if a.order == 0 {
-        return 1;
-    }
-    2
 }
 
 fn compared(line: &[u8], words: &[u64], pool: &[u8]) -> bool {

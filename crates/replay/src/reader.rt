@@ -3,13 +3,6 @@
 use tuple::answers::Length;
 use tuple::reader;
 
-fn flag(b: bool) -> u64 {
-    if b {
-        return 1;
-    }
-    0
-}
-
 pub fn next(line: &[u8], bytes: &[u8]) -> bool {
     let s = reader::tuple_chars_next(bytes, lines::size(line, 2), lines::size(line, 3) == 1);
     lines::are_decimals(
@@ -21,7 +14,7 @@ pub fn next(line: &[u8], bytes: &[u8]) -> bool {
             s.given as u64,
             s.code as u64,
             s.at,
-            flag(s.done),
+            u64::from(s.done),
         ],
     )
 }
@@ -40,9 +33,9 @@ fn run(text: &[u8], ended: bool, codes: &mut [u64; 8193]) -> Characters {
     let mut refusal = 0;
     let mut at = 0;
     let mut done = ended;
-    for i in 0..8193 {
+    for code in codes {
         let s = reader::tuple_chars_next(text, at as usize, done);
-        codes[i] = s.code as u64;
+        *code = u64::from(s.code);
         count = std::num::wrapping_add_u64(count, s.given as u64);
         refusal = std::num::wrapping_add_u32(refusal, s.refusal);
         at = s.at;
@@ -61,17 +54,14 @@ fn whole(line: &[u8], o: Length, r: Characters, codes: &[u64; 8193]) -> bool {
 
 // The bytes behind a string's mark.
 fn behind(bytes: &[u8]) -> &[u8] {
-    if 0 < bytes.len() {
-        return &bytes[1..];
-    }
-    bytes
+    bytes.get(1..).unwrap_or(bytes)
 }
 
 // A reader that was opened and came to the end shows the name; one that refused shows none.
 fn named(line: &[u8], o: Length, r: Characters, codes: &[u64; 8193]) -> bool {
-    let ends = flag(o.refusal == 0 && r.refusal == 0);
-    let count = if ends == 1 { r.count } else { 0 };
-    lines::are_decimals(line, 3, &[o.refusal as u64, o.detail, ends])
+    let ends = o.refusal == 0 && r.refusal == 0;
+    let count = if ends { r.count } else { 0 };
+    lines::are_decimals(line, 3, &[u64::from(o.refusal), o.detail, u64::from(ends)])
         & lines::is_words(line, 6, count as usize, codes)
 }
 

@@ -1,15 +1,12 @@
--- Runs and payloads from a place on: up to the next zero, and over it.
+-- A payload from a place in its run on: up to the next zero, and over it.
 use Rattle.std.proofs.Common.{◌≡◌, ℕ, suc, ◌+◌, ◌-◌, ◌<◌, ◌≤◌, List, [], ◌∷◌, ◌++◌, length, get_or, drop, sym, refl, ap, ◌∙◌, add-one, arith, length-append, drop_of_length-le, drop-cons, drop-drop}
 use lib.Seq.{slice, length-slice}
-use Rattle.format.specs.Scalar.{escaped}
 use Rattle.format.specs.Fields.{put}
-use Rattle.format.specs.Zeros.{zeros}
-use Rattle.format.proofs.ZeroLaws.{escaped_long}
-use Rattle.blocks.specs.Zeros.{NoZero, ZeroFrom}
+use Rattle.blocks.specs.Zeros.{ZeroFrom}
 use Rattle.blocks.proofs.Spans.{drop_split, span_slice}
-use Rattle.blocks.proofs.Put.{put_put, Left, left_chunk}
+use Rattle.blocks.proofs.Put.{Left, left_chunk}
 use Rattle.scalar.specs.Runs.{unescape}
-use Rattle.scalar.proofs.Escapes.{escaped_none, escaped_byte, escaped_zero, unescape_none, unescape_byte, unescape_zero}
+use Rattle.scalar.proofs.Escapes.{unescape_none, unescape_byte, unescape_zero}
 
 pub drop_one : (s : List ℕ) (i : ℕ) → i < length s → drop i s ≡ get_or s i 0 ∷ drop (i + 1) s
 drop_one s i h = rw add-one (drop-cons s i 0 h)
@@ -20,10 +17,6 @@ Free t = (k : ℕ) → k < length t → get_or t k 0 ≡ 0 → ⊥
 
 pub free_rest : (b : ℕ) (t : List ℕ) → Free (b ∷ t) → Free t
 free_rest b t h k l = h (suc k) (omega arith)
-
-escaped_free : (t u : List ℕ) → Free t → escaped (t ++ u) ≡ t ++ escaped u
-escaped_free [] u h = refl
-escaped_free (b ∷ t) u h = escaped_byte b (t ++ u) (h 0 (omega arith)) ∙ ap (λ (l : List ℕ). b ∷ l) (escaped_free t u (free_rest b t h))
 
 unescape_free : (t u : List ℕ) → Free t → unescape (t ++ u) ≡ t ++ unescape u
 unescape_free [] u h = refl
@@ -39,32 +32,19 @@ module _ (s : List ℕ) (i z : ℕ) (f : ZeroFrom s i z) where
   pub chunk_long : length (slice i z s) ≡ z - i
   chunk_long = length-slice i z s f.inside
 
-  pub escaped_chunk : escaped (drop i s) ≡ slice i z s ++ escaped (drop z s)
-  escaped_chunk = ap escaped chunk_split ∙ escaped_free (slice i z s) (drop z s) chunk_free
-
   pub unescape_chunk : unescape (drop i s) ≡ slice i z s ++ unescape (drop z s)
   unescape_chunk = ap unescape chunk_split ∙ unescape_free (slice i z s) (drop z s) chunk_free
-
-  pub escaped_ahead : length (escaped (drop i s)) ≡ (z - i) + length (escaped (drop z s))
-  escaped_ahead = ap length escaped_chunk ∙ length-append (slice i z s) _ ∙ ap (λ (n : ℕ). n + length (escaped (drop z s))) chunk_long
 
   pub unescape_ahead : length (unescape (drop i s)) ≡ (z - i) + length (unescape (drop z s))
   unescape_ahead = ap length unescape_chunk ∙ length-append (slice i z s) _ ∙ ap (λ (n : ℕ). n + length (unescape (drop z s))) chunk_long
 
   -- the bytes before the zero were copied
-  pub escaped_copied : {d₀ : List ℕ} {at : ℕ} {t d d' : List ℕ} {o : ℕ} → at + length t ≤ length d₀ → Left d₀ at t d o (escaped (drop i s)) → d' ≡ put d o (slice i z s)
-      → Left d₀ at t d' (o + (z - i)) (escaped (drop z s))
-  escaped_copied h l p = left_chunk (slice i z s) h (rw escaped_chunk at l) p chunk_long
-
   pub unescape_copied : {d₀ : List ℕ} {at : ℕ} {t d d' : List ℕ} {o : ℕ} → at + length t ≤ length d₀ → Left d₀ at t d o (unescape (drop i s)) → d' ≡ put d o (slice i z s)
       → Left d₀ at t d' (o + (z - i)) (unescape (drop z s))
   unescape_copied h l p = left_chunk (slice i z s) h (rw unescape_chunk at l) p chunk_long
 
   -- over the zero
   module _ (h : z < length s) where
-    pub escaped_over : escaped (drop z s) ≡ 0 ∷ 0xFF ∷ escaped (drop (z + 1) s)
-    escaped_over = ap escaped (drop_one s z h) ∙ escaped_zero (get_or s z 0) (drop (z + 1) s) (f.zero h)
-
     pub unescape_over : unescape (drop z s) ≡ 0 ∷ unescape (drop (z + 2) s)
     unescape_over =
         let two : z + 1 + 1 ≡ z + 2 = omega arith in
@@ -72,34 +52,5 @@ module _ (s : List ℕ) (i z : ℕ) (f : ZeroFrom s i z) where
 
 -- at the end
 module _ (s : List ℕ) (z : ℕ) (h : length s ≤ z) where
-  pub escaped_past : escaped (drop z s) ≡ 0 ∷ []
-  escaped_past = ap escaped (drop_of_length-le s h) ∙ escaped_none
-
   pub unescape_past : unescape (drop z s) ≡ []
   unescape_past = ap unescape (drop_of_length-le s h) ∙ unescape_none
-
--- ---- the bytes before a zero were written first
-
-module _ (s : List ℕ) (z : ℕ) (l : z ≤ length s) (none : NoZero s 0 z) where
-  front_split : escaped s ≡ slice 0 z s ++ escaped (drop z s)
-  front_split = ap escaped (drop_split s 0 z (omega arith) l) ∙ escaped_free (slice 0 z s) (drop z s) (span_slice s (λ b. b ≡ 0 → ⊥) 0 z l none)
-
-  front_long : length (slice 0 z s) ≡ z
-  front_long = omega (arith, length-slice 0 z s l)
-
-  pub front_ahead : length (escaped s) ≡ z + length (escaped (drop z s))
-  front_ahead = ap length front_split ∙ length-append (slice 0 z s) _ ∙ ap (λ (n : ℕ). n + length (escaped (drop z s))) front_long
-
-  pub front_then : (d : List ℕ) (at : ℕ) {d₁ d₂ : List ℕ} → at + length (escaped s) ≤ length d → d₁ ≡ put d at (slice 0 z s) → d₂ ≡ put d₁ (at + z) (escaped (drop z s)) → d₂ ≡ put d at (escaped s)
-  front_then d at {d₁} {d₂} h e f =
-      let n = front_long in
-      let a = front_ahead in
-      f
-      ∙ ap (λ (x : List ℕ). put x (at + z) (escaped (drop z s))) e
-      ∙ ap (λ (k : ℕ). put (put d at (slice 0 z s)) (at + k) (escaped (drop z s))) (sym n)
-      ∙ put_put d at (slice 0 z s) (escaped (drop z s)) (omega arith)
-      ∙ ap (put d at) (sym front_split)
-
-  -- both: the payload, an escape for each zero, and the end
-  pub front_counted : z + length (escaped (drop z s)) ≡ length s + zeros s + 1
-  front_counted = omega (arith, front_ahead, escaped_long s)

@@ -13,18 +13,6 @@ use Rattle.scalar.proofs.Reading.{no_got}
 
 -- ---- a payload as a run
 
-pub escaped_none : escaped [] ≡ 0 ∷ []
-unfolding escaped
-escaped_none = refl
-
-pub escaped_byte : (b : ℕ) (t : List ℕ) → (b ≡ 0 → ⊥) → escaped (b ∷ t) ≡ b ∷ escaped t
-unfolding escaped
-escaped_byte b t h = rw (ne_eqb _ _ h)
-
-pub escaped_zero : (b : ℕ) (t : List ℕ) → b ≡ 0 → escaped (b ∷ t) ≡ 0 ∷ 0xFF ∷ escaped t
-unfolding escaped
-escaped_zero b t h = rw (eq-eqb _ _ h)
-
 pub escaped_bounds : (s : List ℕ) → (length s + 1 ≤ length (escaped s)) × (length (escaped s) ≤ 2 * length s + 1)
 escaped_bounds s = let l = escaped_long s in let z = zeros_le s in (omega arith, omega arith)
 

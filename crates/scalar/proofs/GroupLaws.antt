@@ -4,14 +4,14 @@ use borrow.Author.Tests.{not-true, not-false}
 use Rattle.format.specs.Answer.{if, ok, refused}
 use Rattle.format.specs.Tree.{Ty, Tys, Alts, Val}
 use Rattle.format.specs.Encode.{max_depth}
-use Rattle.format.specs.Read.{Read, got, bad, get_uint, starts_ff, ends_here}
+use Rattle.format.specs.Read.{Read, got, bad, marked, get_uint, starts_ff, ends_here}
 use Rattle.format.specs.Fields.{taken_from, get_u64_call}
 use Rattle.format.specs.Skip.{end_of}
 use Rattle.format.specs.Decode.{Decoded, decode, decode_group, decode_union, after, union_end, with_tag}
 use Rattle.format.proofs.Tests.{bool_test, eqb_test, ltb_test, passed}
 use Rattle.format.specs.Cursor.{null_at, record_mark, tag_at, union_mark, group_end}
-use Rattle.scalar.specs.Answers.{got_int}
-use Rattle.scalar.specs.declared.ints.GotInt.{GotInt}
+use Rattle.scalar.specs.Answers.{begins_with}
+use Rattle.scalar.proofs.Marking.{in_front, behind_mark, mark_taken}
 use Rattle.scalar.proofs.Cases.{by_test}
 use Rattle.scalar.proofs.Parts.{part_rest}
 use Rattle.scalar.proofs.Reading.{Front, Took, drop_past, front_drop, front_cons, no_got, taken_got, taken_bad, took, refuses, end_took, end_refuses}
@@ -20,6 +20,9 @@ use Rattle.scalar.proofs.Integers.{uint_front, u64_took, u64_refuses}
 -- behind one byte
 one_more : (s : List ℕ) → suc (length s) - length s ≡ 1
 one_more s = omega arith
+
+one_taken : (m : ℕ) (b : List ℕ) → ok tt ≡ begins_with m b → length b - length (drop 1 b) ≡ 1
+one_taken m b p = omega (arith, mark_taken m b p)
 
 -- ---- the end of a group
 
@@ -59,32 +62,46 @@ end_other (x ∷ s) l e t w = rw (← e, t, w)
 
 -- ---- a null
 
-module _ (escape : Bool) where
-  pub null_eof : (b : List ℕ) → length b ≡ 0 → refused 1 0 ≡ end_of b (null_at (if escape 1 0) b)
-  null_eof [] h = refl
-  null_eof (x ∷ s) h = absurd (omega arith)
+nulled : ℕ → List ℕ → Read Unit
+nulled k s = if (ltb 0 k) (if (starts_ff s) (got tt (drop 1 s)) (bad 3 0)) (got tt s)
 
-  pub null_mark : (b : List ℕ) → (length b ≡ 0 → ⊥) → (get_or b 0 0 ≡ 0 → ⊥) → {v : ℕ} → v ≡ get_or b 0 0 → refused 2 v ≡ end_of b (null_at (if escape 1 0) b)
-  null_mark [] l h w = absurd (l refl)
-  null_mark (x ∷ s) l h w = rw (ne_eqb x 0 h, w)
+null_is : (k : ℕ) (b : List ℕ) → null_at k b ≡ marked 0 (nulled k) b
+unfolding nulled
+null_is k [] = refl
+null_is k (x ∷ s) = refl
 
-  pub null_bare : (b : List ℕ) → (length b ≡ 0 → ⊥) → get_or b 0 0 ≡ 0 → escape ≡ false → ok 1 ≡ end_of b (null_at (if escape 1 0) b)
-  null_bare [] l h f = absurd (l refl)
-  null_bare (x ∷ s) l h f = rw (eq-eqb x 0 h, f, one_more s)
+ends_zero : (b : List ℕ) → b ≡ 0 ∷ drop 1 b → ends_here b ≡ not (starts_ff (drop 1 b))
+unfolding ends_here
+ends_zero [] e = let z : ◌≡◌ {A = ℕ} 0 1 = ap length e in absurd (omega arith)
+ends_zero (x ∷ s) e = let y : x ≡ 0 = cc in rw (eq-eqb x 0 y)
 
-  module _ (d : escape ≡ true) where
-    pub null_ended : (b : List ℕ) → (length b ≡ 0 → ⊥) → get_or b 0 0 ≡ 0 → {r : Bool} → r ≡ ends_here b → r ≡ true → refused 3 0 ≡ end_of b (null_at (if escape 1 0) b)
-    unfolding ends_here
-    null_ended [] l h e t = absurd (l refl)
-    null_ended (x ∷ s) l h e t = rw (d, eq-eqb x 0 h, not-true (starts_ff s) (rw (eq-eqb x 0 h) at (sym e ∙ t)))
+two_taken : (b : List ℕ) → b ≡ 0 ∷ drop 1 b → starts_ff (drop 1 b) ≡ true → length b - length (drop 1 (drop 1 b)) ≡ 2
+unfolding starts_ff
+two_taken [] e t = let z : ◌≡◌ {A = ℕ} 0 1 = ap length e in absurd (omega arith)
+two_taken (x ∷ []) e t = let z : ◌≡◌ {A = ℕ} 0 1 = cc in absurd (omega arith)
+two_taken (x ∷ y ∷ s) e t = omega arith
 
-    pub null_escaped : (b : List ℕ) → (length b ≡ 0 → ⊥) → get_or b 0 0 ≡ 0 → {r : Bool} → r ≡ ends_here b → r ≡ false → ok 2 ≡ end_of b (null_at (if escape 1 0) b)
-    unfolding ends_here starts_ff
-    null_escaped [] l h e t = absurd (l refl)
-    null_escaped (x ∷ []) l h e t = let g = rw (eq-eqb x 0 h) at (sym e ∙ t) in let o : ◌≡◌ {A = ℕ} 0 1 = cc in absurd (omega arith)
-    null_escaped (x ∷ y ∷ s) l h e t =
-        let n : suc (suc (length s)) - length s ≡ 2 = omega arith in
-        rw (d, eq-eqb x 0 h, not-false (starts_ff (y ∷ s)) (rw (eq-eqb x 0 h) at (sym e ∙ t)), n)
+module _ (escape : Bool) (b : List ℕ) (p : ok tt ≡ begins_with 0 b) where
+  null_here : null_at (if escape 1 0) b ≡ nulled (if escape 1 0) (drop 1 b)
+  null_here = null_is (if escape 1 0) b ∙ behind_mark 0 b p (nulled (if escape 1 0))
+
+  pub null_bare : escape ≡ false → ok 1 ≡ end_of b (null_at (if escape 1 0) b)
+  unfolding nulled
+  null_bare f = rw (null_here, f, one_taken 0 b p)
+
+  module _ (d : escape ≡ true) {t : Bool} (e : t ≡ ends_here b) where
+    shows : {v : Bool} → t ≡ v → not (starts_ff (drop 1 b)) ≡ v
+    shows w = sym (ends_zero b (in_front 0 b p)) ∙ sym e ∙ w
+
+    pub null_ended : t ≡ true → refused 3 0 ≡ end_of b (null_at (if escape 1 0) b)
+    unfolding nulled
+    null_ended w = rw (null_here, d, not-true (starts_ff (drop 1 b)) (shows w))
+
+    pub null_escaped : t ≡ false → ok 2 ≡ end_of b (null_at (if escape 1 0) b)
+    unfolding nulled
+    null_escaped w =
+        let f = not-false (starts_ff (drop 1 b)) (shows w) in
+        rw (null_here, d, f, two_taken b (in_front 0 b p) f)
 
 -- a depth is within a group or not
 pub null_depth : (d : ℕ) (b : List ℕ) → null_at (if (ltb 0 d) 1 0) b ≡ null_at d b
@@ -93,53 +110,56 @@ null_depth d (x ∷ s) = by_test (ltb 0 d) (λ t. rw t) (λ t. rw t)
 
 -- ---- a record opens
 
-module _ (d : ℕ) where
-  pub record_eof : (b : List ℕ) → length b ≡ 0 → refused 1 0 ≡ end_of b (record_mark d b)
-  record_eof [] h = refl
-  record_eof (x ∷ s) h = absurd (omega arith)
+opened : ℕ → List ℕ → Read Unit
+opened d s = if (ltb d 256) (got tt s) (bad 6 0)
 
-  pub record_mark_lem : (b : List ℕ) → (length b ≡ 0 → ⊥) → (get_or b 0 0 ≡ 0x22 → ⊥) → {v : ℕ} → v ≡ get_or b 0 0 → refused 2 v ≡ end_of b (record_mark d b)
-  record_mark_lem [] l h w = absurd (l refl)
-  record_mark_lem (x ∷ s) l h w = rw (ne_eqb x 0x22 h, w)
+record_is : (d : ℕ) (b : List ℕ) → record_mark d b ≡ marked 0x22 (opened d) b
+unfolding opened
+record_is d [] = refl
+record_is d (x ∷ s) = refl
 
-  pub record_deep : (b : List ℕ) → (length b ≡ 0 → ⊥) → get_or b 0 0 ≡ 0x22 → 256 ≤ d → refused 6 0 ≡ end_of b (record_mark d b)
-  record_deep [] l h m = absurd (l refl)
-  record_deep (x ∷ s) l h m = rw (eq-eqb x 0x22 h, le-ltb d 256 m)
+module _ (d : ℕ) (b : List ℕ) (p : ok tt ≡ begins_with 0x22 b) where
+  record_here : record_mark d b ≡ opened d (drop 1 b)
+  record_here = record_is d b ∙ behind_mark 0x22 b p (opened d)
 
-  pub record_open : (b : List ℕ) → (length b ≡ 0 → ⊥) → get_or b 0 0 ≡ 0x22 → d < 256 → ok 1 ≡ end_of b (record_mark d b)
-  record_open [] l h m = absurd (l refl)
-  record_open (x ∷ s) l h m = rw (eq-eqb x 0x22 h, lt-ltb d 256 m, one_more s)
+  pub record_deep : 256 ≤ d → refused 6 0 ≡ end_of b (record_mark d b)
+  unfolding opened
+  record_deep m = rw (record_here, le-ltb d 256 m)
 
-  -- ---- a union opens
+  pub record_open : d < 256 → ok 1 ≡ end_of b (record_mark d b)
+  unfolding opened
+  record_open m = rw (record_here, lt-ltb d 256 m, one_taken 0x22 b p)
 
-  pub union_eof : (b : List ℕ) → length b ≡ 0 → refused 1 0 ≡ taken_from b (union_mark d b)
-  union_eof [] h = refl
-  union_eof (x ∷ s) h = absurd (omega arith)
+-- ---- a union opens
 
-  pub union_mark_lem : (b : List ℕ) → (length b ≡ 0 → ⊥) → (get_or b 0 0 ≡ 0x52 → ⊥) → {v : ℕ} → v ≡ get_or b 0 0 → refused 2 v ≡ taken_from b (union_mark d b)
-  union_mark_lem [] l h w = absurd (l refl)
-  union_mark_lem (x ∷ s) l h w = rw (ne_eqb x 0x52 h, w)
+tagged : ℕ → List ℕ → Read ℕ
+tagged d s = tag_at d (get_uint s)
 
-  union_this : (b : List ℕ) → (length b ≡ 0 → ⊥) → get_or b 0 0 ≡ 0x52 → union_mark d b ≡ tag_at d (get_uint (drop 1 b))
-  union_this [] l h = absurd (l refl)
-  union_this (x ∷ s) l h = rw (eq-eqb x 0x52 h)
+union_is : (d : ℕ) (b : List ℕ) → union_mark d b ≡ marked 0x52 (tagged d) b
+unfolding tagged
+union_is d [] = refl
+union_is d (x ∷ s) = refl
 
-  module _ (b : List ℕ) (l : length b ≡ 0 → ⊥) (h : get_or b 0 0 ≡ 0x52) (g : GotInt) (p : got_int g ≡ get_u64_call (take (length b - 1) (drop 1 b))) where
-    pub union_bad : (n k : ℕ) → g ≡ GotInt.Refused n k → refused n k ≡ taken_from b (union_mark d b)
-    union_bad n k e = taken_bad b (union_this b l h ∙ ap (tag_at d) (u64_refuses (drop 1 b) (rw (part_rest 1 b, e) at p)))
+module _ (d : ℕ) (b : List ℕ) (p : ok tt ≡ begins_with 0x52 b) where
+  union_here : union_mark d b ≡ tag_at d (get_uint (drop 1 b))
+  unfolding tagged
+  union_here = union_is d b ∙ behind_mark 0x52 b p (tagged d)
 
-    module _ (v n : ℕ) (e : g ≡ GotInt.Value v n) where
-      tag_took : Took (drop 1 b) (get_uint (drop 1 b)) v n
-      tag_took = u64_took (drop 1 b) (rw (part_rest 1 b, e) at p)
+  pub union_bad : {n k : ℕ} → refused n k ≡ get_u64_call (take (length b - 1) (drop 1 b)) → refused n k ≡ taken_from b (union_mark d b)
+  union_bad w = taken_bad b (union_here ∙ ap (tag_at d) (u64_refuses (drop 1 b) (rw (part_rest 1 b) at w)))
 
-      pub union_within : n + 1 ≤ length b
-      union_within = omega (arith, tag_took.within, length-drop 1 b)
+  module _ {v n : ℕ} (w : ok (record { value = v; used = n }) ≡ get_u64_call (take (length b - 1) (drop 1 b))) where
+    tag_took : Took (drop 1 b) (get_uint (drop 1 b)) v n
+    tag_took = u64_took (drop 1 b) (rw (part_rest 1 b) at w)
 
-      pub union_deep : 256 ≤ d → refused 6 0 ≡ taken_from b (union_mark d b)
-      union_deep m = taken_bad b (union_this b l h ∙ ap (tag_at d) tag_took.reads ∙ rw (le-ltb d 256 m))
+    pub union_within : n + 1 ≤ length b
+    union_within = omega (arith, mark_taken 0x52 b p, tag_took.within)
 
-      pub union_open : d < 256 → ok (record { value = v; used = n + 1 }) ≡ taken_from b (union_mark d b)
-      union_open m = taken_got b (n + 1) (union_this b l h ∙ ap (tag_at d) tag_took.reads ∙ rw (lt-ltb d 256 m, drop_past n b)) union_within
+    pub union_deep : 256 ≤ d → refused 6 0 ≡ taken_from b (union_mark d b)
+    union_deep m = taken_bad b (union_here ∙ ap (tag_at d) tag_took.reads ∙ rw (le-ltb d 256 m))
+
+    pub union_open : d < 256 → ok (record { value = v; used = n + 1 }) ≡ taken_from b (union_mark d b)
+    union_open m = taken_got b (n + 1) (union_here ∙ ap (tag_at d) tag_took.reads ∙ rw (lt-ltb d 256 m, drop_past n b)) union_within
 
 -- ---- what a step took
 

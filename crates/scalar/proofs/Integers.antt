@@ -6,8 +6,6 @@ use Rattle.format.specs.Scalar.{width}
 use Rattle.format.specs.Read.{Read, got, bad, then_read, number, get_big, width_is, get_uint, get_neg, get_int}
 use Rattle.format.specs.Fields.{get_i64_call, get_u64_call}
 use Rattle.format.proofs.Tests.{leb_test, ltb_test, eqb_test, passed, failed}
-use Rattle.scalar.specs.Answers.{got_int}
-use Rattle.scalar.specs.declared.ints.GotInt.{GotInt}
 use Rattle.scalar.proofs.Parts.{part_rest}
 use Rattle.scalar.proofs.Widths.{width_some}
 use Rattle.scalar.proofs.Reading.{Front, Took, drop_past, front_drop, no_got, then_got, taken_got, taken_bad, took, refuses}
@@ -173,14 +171,14 @@ module _ (b : List ℕ) where
   unfolding get_i64_call
   i64_low h l w = rw w (taken_bad b (int_low b h l))
 
-  module _ (h : length b ≡ 0 → ⊥) (l : 0x48 ≤ get_or b 0 0) (r : GotInt) (p : got_int r ≡ get_u64_call b) where
-    pub i64_kept : (n d : ℕ) → r ≡ GotInt.Refused n d → refused n d ≡ get_i64_call b
+  module _ (h : length b ≡ 0 → ⊥) (l : 0x48 ≤ get_or b 0 0) where
+    pub i64_kept : {n d : ℕ} → refused n d ≡ get_u64_call b → refused n d ≡ get_i64_call b
     unfolding get_i64_call
-    i64_kept n d e = taken_bad b (pos_at b h l ∙ rw (u64_refuses b (rw e at p)))
+    i64_kept p = taken_bad b (pos_at b h l ∙ rw (u64_refuses b p))
 
-    module _ (v n : ℕ) (e : r ≡ GotInt.Value v n) where
+    module _ {v n : ℕ} (p : ok (record { value = v; used = n }) ≡ get_u64_call b) where
       took_uint : Took b (get_uint b) v n
-      took_uint = u64_took b (rw e at p)
+      took_uint = u64_took b p
 
       pub i64_over : 2 ^ 63 ≤ v → refused 13 0 ≡ get_i64_call b
       unfolding get_i64_call

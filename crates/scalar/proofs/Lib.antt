@@ -4,6 +4,7 @@ pub mod Parts
 pub mod Widths
 pub mod Numbers
 pub mod Reading
+pub mod Marking
 pub mod Integers
 pub mod Unjudged
 pub mod Escapes

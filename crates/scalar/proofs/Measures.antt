@@ -1,32 +1,37 @@
 -- Measuring a run: over a byte, up to the next zero, over an escape, and at the end; where it ends; and what a measure says of the run.
+use Rattle.std.specs.Prelude.{Option, Some, None}
 use Rattle.std.proofs.Common.{◌≡◌, ℕ, suc, ◌+◌, ◌-◌, ◌<◌, ◌≤◌, eqb, ltb, List, [], ◌∷◌, ◌++◌, length, get_or, take, drop, sym, refl, ap, ◌∙◌, add_assoc, zero-add, arith, length-drop, drop_of_length-le, length-take, ltb-false, ltb-true}
 use lib.Seq.{slice}
+use Rattle.format.specs.Answer.{ok, refused}
 use Rattle.format.specs.Read.{Read, got, bad, marked, cons_read, get_run}
 use Rattle.format.specs.Zeros.{zeros}
 use Rattle.format.proofs.ZeroLaws.{zeros_nil, zeros_le}
 use Rattle.blocks.specs.Zeros.{ZeroFrom}
+use Rattle.scalar.specs.Answers.{begins_with}
 use Rattle.scalar.specs.Runs.{measured, measured_by, end_by, run_end, marked_by, unescape, payload_to, RunIn}
-use Rattle.scalar.specs.declared.runs.Measure.{Measure}
-use Rattle.scalar.specs.declared.runs.Measure.TheVariants.{Run, Unended}
-use Rattle.scalar.specs.declared.runs.MarkedRun.TheVariants.{Ends, Refused}
+use Rattle.scalar.specs.declared.runs.Run.{Run}
 use Rattle.scalar.proofs.Cases.{by_test}
 use Rattle.scalar.proofs.Parts.{part_rest}
-use Rattle.scalar.proofs.Reading.{marked_none, marked_other, marked_this}
+use Rattle.scalar.proofs.Marking.{no_ok, behind_mark, mark_taken}
 use Rattle.scalar.proofs.Escapes.{RunAt, run_at, run_none, run_byte, run_last, run_escape, run_ends, run_eof}
 use Rattle.scalar.proofs.Chunks.{Free, free_rest, chunk_free, chunk_split, chunk_long, drop_one}
 
 -- k places and n bytes of payload further on
-abbrev more : ℕ → ℕ → Measure → Measure
-more k n (Run e l) = Run (k + e) (n + l)
-more k n Unended = Unended
+abbrev more : ℕ → ℕ → Option Run → Option Run
+more k n (Some r) = Some (record { end = k + r.end; len = n + r.len })
+more k n None = None
 
-more_zero : (m : Measure) → more 0 0 m ≡ m
-more_zero (Run e l) = rw (zero-add e, zero-add l)
-more_zero Unended = refl
+more_zero : (m : Option Run) → more 0 0 m ≡ m
+more_zero (Some r) = rw (zero-add r.end, zero-add r.len)
+more_zero None = refl
 
-more_more : (a b c d : ℕ) (m : Measure) → more a b (more c d m) ≡ more (a + c) (b + d) m
-more_more a b c d (Run e l) = rw (add_assoc a c e, add_assoc b d l)
-more_more a b c d Unended = refl
+more_more : (a b c d : ℕ) (m : Option Run) → more a b (more c d m) ≡ more (a + c) (b + d) m
+more_more a b c d (Some r) = rw (add_assoc a c r.end, add_assoc b d r.len)
+more_more a b c d None = refl
+
+-- a run by its two numbers
+abbrev run_of : (end len : ℕ) → Run
+run_of end len = record { end = end; len = len }
 
 by_read : (s : List ℕ) {x : Read (List ℕ)} → get_run s ≡ x → measured s ≡ measured_by s x
 unfolding measured
@@ -56,7 +61,7 @@ measured_free (b ∷ t) u h =
     let e : 1 + length t ≡ suc (length t) = omega arith in
     measured_byte b (t ++ u) (h 0 (omega arith)) ∙ ap (more 1 1) (measured_free t u (free_rest b t h)) ∙ rw (← e) (more_more 1 1 (length t) (length t) (measured u))
 
-at_terminator : (t : List ℕ) → get_run (0 ∷ t) ≡ got [] t → measured (0 ∷ t) ≡ Run 0 0
+at_terminator : (t : List ℕ) → get_run (0 ∷ t) ≡ got [] t → measured (0 ∷ t) ≡ Some (run_of 0 0)
 at_terminator t h = let e : suc (length t) - length t - 1 ≡ 0 = omega arith in by_read (0 ∷ t) h ∙ rw e
 
 -- up to the next zero
@@ -66,9 +71,9 @@ module _ (s : List ℕ) (i z : ℕ) (f : ZeroFrom s i z) where
 
 -- ---- where a run ends
 
-end_more : (i len k n : ℕ) (m : Measure) → end_by i len (more k n m) ≡ end_by (i + k) len m
-end_more i len k n (Run e l) = sym (add_assoc i k e)
-end_more i len k n Unended = refl
+end_more : (i len k n : ℕ) (m : Option Run) → end_by i len (more k n m) ≡ end_by (i + k) len m
+end_more i len k n (Some r) = sym (add_assoc i k r.end)
+end_more i len k n None = refl
 
 -- the end is the same from a place further on
 end_from : (s : List ℕ) (i k n : ℕ) → measured (drop i s) ≡ more k n (measured (drop (i + k) s)) → run_end s i ≡ run_end s (i + k)
@@ -130,43 +135,42 @@ of_run s p r d e n at h u v =
     let y : r ≡ drop (e + 1) s = rw k at.rest in
     record { reads = rw (← w, ← y) h; inside = omega arith; long = sym v ∙ ap length w; escapes = rw (← w, ← v) (k ∙ at.escapes); zeroed = k ∙ at.escapes ∙ rw (k, at.zeroed, v) }
 
-by_run : (s : List ℕ) (e n : ℕ) (x : Read (List ℕ)) → get_run s ≡ x → measured_by s x ≡ Run e n → Measured s e n
-by_run s e n (got p r) h q =
+by_run : (s : List ℕ) (m : Run) (x : Read (List ℕ)) → get_run s ≡ x → measured_by s x ≡ Some m → Measured s m.end m.len
+by_run s m (got p r) h q =
     let a = run_at s p r h in
-    let u : length s - length r - 1 ≡ e = cc in
-    let v : length p ≡ n = cc in
-    of_run s p r a.0 e n a.1 h u v
-by_run s e n (bad m d) h q = let z : ◌≡◌ {A = ℕ} 0 1 = cc in absurd (omega arith)
+    let e : run_of (length s - length r - 1) (length p) ≡ m = cc in
+    of_run s p r a.0 m.end m.len a.1 h (ap (λ (k : Run). k.end) e) (ap (λ (k : Run). k.len) e)
+by_run s m (bad n d) h q = let z : ◌≡◌ {A = ℕ} 0 1 = cc in absurd (omega arith)
 
-pub measured_run : (s : List ℕ) (e n : ℕ) → measured s ≡ Run e n → Measured s e n
-measured_run s e n p = by_run s e n (get_run s) refl (sym (by_read s refl) ∙ p)
+pub measured_run : (s : List ℕ) (m : Run) → measured s ≡ Some m → Measured s m.end m.len
+measured_run s m p = by_run s m (get_run s) refl (sym (by_read s refl) ∙ p)
 
-by_none : (s : List ℕ) (x : Read (List ℕ)) → get_run s ≡ x → measured_by s x ≡ Unended → get_run s ≡ bad 1 0
+by_none : (s : List ℕ) (x : Read (List ℕ)) → get_run s ≡ x → measured_by s x ≡ None → get_run s ≡ bad 1 0
 by_none s (got p r) h q = let z : ◌≡◌ {A = ℕ} 0 1 = cc in absurd (omega arith)
 by_none s (bad m d) h q = run_eof s m d h
 
 -- a run that does not end
-pub measured_none : (s : List ℕ) → measured s ≡ Unended → get_run s ≡ bad 1 0
+pub measured_none : (s : List ℕ) → measured s ≡ None → get_run s ≡ bad 1 0
 measured_none s p = by_none s (get_run s) refl (sym (by_read s refl) ∙ p)
 
 -- ---- what the end says of the run
 
 module _ (s : List ℕ) (from end : ℕ) (q : end ≡ run_end s from) where
-  by_end : {A : Type 0} → (end ≡ length s → measured (drop from s) ≡ Unended → A) → ((e n : ℕ) → end ≡ from + e → measured (drop from s) ≡ Run e n → A) → A
+  by_end : {A : Type 0} → (end ≡ length s → measured (drop from s) ≡ None → A) → ((m : Run) → end ≡ from + m.end → measured (drop from s) ≡ Some m → A) → A
   unfolding run_end
   by_end {A} f g = go (measured (drop from s)) refl
     where
-      go : (m : Measure) → measured (drop from s) ≡ m → A
-      go (Run e n) h = g e n (q ∙ rw h) h
-      go Unended h = f (q ∙ rw h) h
+      go : (o : Option Run) → measured (drop from s) ≡ o → A
+      go (Some m) h = g m (q ∙ rw h) h
+      go None h = f (q ∙ rw h) h
 
   pub end_none : length s ≤ end → get_run (drop from s) ≡ bad 1 0
-  end_none l = by_end (λ e h. measured_none (drop from s) h) (λ e n d h. absurd (omega (arith, (measured_run (drop from s) e n h).inside, length-drop from s)))
+  end_none l = by_end (λ e h. measured_none (drop from s) h) (λ m d h. absurd (omega (arith, (measured_run (drop from s) m h).inside, length-drop from s)))
 
   pub end_run : end < length s → (n : ℕ) × (from ≤ end) × Measured (drop from s) (end - from) n
   end_run l =
       by_end (λ e h. absurd (omega arith))
-      (λ e n d h. let k : end - from ≡ e = omega arith in (n, omega arith, rw k (measured_run (drop from s) e n h)))
+      (λ m d h. let k : end - from ≡ m.end = omega arith in (m.len, omega arith, rw k (measured_run (drop from s) m h)))
 
 -- the end from the first zero on: up to there the run is its own payload
 module _ (s : List ℕ) (first : ℕ) (f : ZeroFrom s 0 first) (end : ℕ) (q : end ≡ run_end s first) where
@@ -174,12 +178,12 @@ module _ (s : List ℕ) (first : ℕ) (f : ZeroFrom s 0 first) (end : ℕ) (q : 
   whole = let e : first - 0 ≡ first = omega arith in rw e at (from_zero s 0 first f)
 
   pub end_after : first ≤ end
-  end_after = by_end s first end q (λ e h. omega (arith, f.inside)) (λ e n d h. omega arith)
+  end_after = by_end s first end q (λ e h. omega (arith, f.inside)) (λ m d h. omega arith)
 
-  pub measured_unended : length s ≤ end → Unended ≡ measured s
+  pub measured_unended : length s ≤ end → None ≡ measured s
   measured_unended l =
       by_end s first end q (λ e h. sym (whole ∙ rw h))
-      (λ e n d h. absurd (omega (arith, (measured_run (drop first s) e n h).inside, length-drop first s)))
+      (λ m d h. absurd (omega (arith, (measured_run (drop first s) m h).inside, length-drop first s)))
 
   module _ (l : end < length s) where
     -- the payload has a byte less for each zero from there on
@@ -187,15 +191,15 @@ module _ (s : List ℕ) (first : ℕ) (f : ZeroFrom s 0 first) (end : ℕ) (q : 
       pub zeros_room : k ≤ end
       zeros_room = omega (arith, zeros_le (take (end - first) (drop first s)), length-take (end - first) (drop first s))
 
-      pub measured_ends : Run end (end - k) ≡ measured s
+      pub measured_ends : Some (run_of end (end - k)) ≡ measured s
       measured_ends =
           by_end s first end q (λ e h. absurd (omega arith))
-          (λ e n d h. let x : end - first ≡ e = omega arith in
-          let y : k ≡ zeros (take e (drop first s)) = (rw x at z) in
-          let w : end - k ≡ first + n = omega (arith, (measured_run (drop first s) e n h).zeroed) in
+          (λ m d h. let x : end - first ≡ m.end = omega arith in
+          let y : k ≡ zeros (take m.end (drop first s)) = (rw x at z) in
+          let w : end - k ≡ first + m.len = omega (arith, (measured_run (drop first s) m h).zeroed) in
           rw (w, d) (sym (whole ∙ rw h)))
 
-    pub measured_plain : end ≡ first → Run end end ≡ measured s
+    pub measured_plain : end ≡ first → Some (run_of end end) ≡ measured s
     measured_plain e =
         let z : end - first ≡ 0 = omega arith in
         let y : end - 0 ≡ end = omega arith in
@@ -203,35 +207,24 @@ module _ (s : List ℕ) (first : ℕ) (f : ZeroFrom s 0 first) (end : ℕ) (q : 
 
 -- ---- a run behind a mark
 
-module _ (mark : ℕ) (b : List ℕ) where
-  pub marked_eof : length b ≡ 0 → Refused 1 0 ≡ marked_by b (marked mark get_run b)
-  marked_eof h = rw (marked_none mark get_run b h)
+module _ (mark : ℕ) (b : List ℕ) (p : ok tt ≡ begins_with mark b) (o : Option Run) (m : o ≡ measured (take (length b - 1) (drop 1 b))) where
+  here : o ≡ measured (drop 1 b)
+  here = rw (part_rest 1 b) at m
 
-  module _ (l : length b ≡ 0 → ⊥) where
-    pub marked_else : {v : ℕ} → v ≡ get_or b 0 0 → (v ≡ mark → ⊥) → {d : ℕ} → d ≡ v → Refused 2 d ≡ marked_by b (marked mark get_run b)
-    marked_else e h w = rw (marked_other mark get_run b (omega arith) (λ y. h (e ∙ y)), w, e)
+  pub marked_unended : o ≡ None → refused 1 0 ≡ marked_by b (marked mark get_run b)
+  marked_unended e = rw (behind_mark mark b p get_run ∙ measured_none (drop 1 b) (sym here ∙ e))
 
-    module _ (h : get_or b 0 0 ≡ mark) (r : Measure) (p : r ≡ measured (take (length b - 1) (drop 1 b))) where
-      behind : marked mark get_run b ≡ get_run (drop 1 b)
-      behind = marked_this mark get_run b (omega arith) h
+  module _ (k : Run) (e : o ≡ Some k) where
+    run_behind : Measured (drop 1 b) k.end k.len
+    run_behind = measured_run (drop 1 b) k (sym here ∙ e)
 
-      here : r ≡ measured (drop 1 b)
-      here = rw (part_rest 1 b) at p
+    pub marked_room : k.end + 1 < length b
+    marked_room = omega (arith, mark_taken mark b p, run_behind.inside)
 
-      pub marked_unended : r ≡ Unended → Refused 1 0 ≡ marked_by b (marked mark get_run b)
-      marked_unended e = rw (behind ∙ measured_none (drop 1 b) (sym here ∙ e))
-
-      module _ (e n : ℕ) (q : r ≡ Run e n) where
-        run_behind : Measured (drop 1 b) e n
-        run_behind = measured_run (drop 1 b) e n (sym here ∙ q)
-
-        pub marked_room : e + 1 < length b
-        marked_room = omega (arith, run_behind.inside, length-drop 1 b)
-
-        pub marked_ends : Ends (e + 1) n ≡ marked_by b (marked mark get_run b)
-        marked_ends =
-            let k : length b - length (drop (e + 1) (drop 1 b)) - 1 ≡ e + 1 = omega (arith, marked_room, length-drop (e + 1) (drop 1 b), length-drop 1 b) in
-            rw (behind ∙ run_behind.reads, ← run_behind.long, k)
+    pub marked_ends : ok (run_of (k.end + 1) k.len) ≡ marked_by b (marked mark get_run b)
+    marked_ends =
+        let j : length b - length (drop (k.end + 1) (drop 1 b)) - 1 ≡ k.end + 1 = omega (arith, marked_room, length-drop (k.end + 1) (drop 1 b), length-drop 1 b) in
+        rw (behind_mark mark b p get_run ∙ run_behind.reads, ← run_behind.long, j)
 
 -- what the answer says of the bytes
 pub record FoundRun (mark : ℕ) (b : List ℕ) (end n : ℕ) : Type 0 where
@@ -246,26 +239,26 @@ found_from m s e end n k q =
     let c : end + 1 ≡ suc (e + 1) = omega arith in
     (rw (a, c) k.reads, record { within = omega arith; long = rw a k.long; escapes = rw a (omega arith) })
 
-found_behind : (m : ℕ) (s : List ℕ) (x : Read (List ℕ)) → get_run s ≡ x → (end n : ℕ) → Ends end n ≡ marked_by (m ∷ s) x
-    → (get_run s ≡ got (payload_to end (m ∷ s)) (drop (end + 1) (m ∷ s))) × RunIn (m ∷ s) end n
-found_behind m s (got p r) h end n q =
+found_behind : (m : ℕ) (s : List ℕ) (x : Read (List ℕ)) → get_run s ≡ x → (k : Run) → ok k ≡ marked_by (m ∷ s) x
+    → (get_run s ≡ got (payload_to k.end (m ∷ s)) (drop (k.end + 1) (m ∷ s))) × RunIn (m ∷ s) k.end k.len
+found_behind m s (got p r) h k q =
     let f = run_shorter s p r h in
-    let u : end ≡ suc (length s) - length r - 1 = cc in
-    let v : n ≡ length p = cc in
-    let k = measured_run s (length s - length r - 1) (length p) (by_read s h) in
-    rw v (found_from m s (length s - length r - 1) end (length p) k (omega arith))
-found_behind m s (bad j d) h end n q = let z : ◌≡◌ {A = ℕ} 0 1 = cc in absurd (omega arith)
+    let e : k ≡ run_of (suc (length s) - length r - 1) (length p) = cc in
+    let u : k.end ≡ suc (length s) - length r - 1 = ap (λ (x : Run). x.end) e in
+    let v : k.len ≡ length p = ap (λ (x : Run). x.len) e in
+    rw v (found_from m s (length s - length r - 1) k.end (length p) (measured_run s (run_of (length s - length r - 1) (length p)) (by_read s h)) (omega arith))
+found_behind m s (bad j d) h k q = no_ok q
 
-pub found_run : (mark : ℕ) (b : List ℕ) (end n : ℕ) → Ends end n ≡ marked_by b (marked mark get_run b) → FoundRun mark b end n
-found_run mark [] end n q = let z : ◌≡◌ {A = ℕ} 0 1 = cc in absurd (omega arith)
-found_run mark (m ∷ s) end n q =
+pub found_run : (mark : ℕ) (b : List ℕ) (k : Run) → ok k ≡ marked_by b (marked mark get_run b) → FoundRun mark b k.end k.len
+found_run mark [] k q = no_ok q
+found_run mark (m ∷ s) k q =
     by_test (eqb m mark)
-    (λ t. let f = found_behind m s (get_run s) refl end n (rw t at q) in record { reads = rw t f.0; run = f.1 })
-    (λ t. let o : Ends end n ≡ Refused 2 m = (rw t at q) in let z : ◌≡◌ {A = ℕ} 0 1 = cc in absurd (omega arith))
+    (λ t. let f = found_behind m s (get_run s) refl k (rw t at q) in record { reads = rw t f.0; run = f.1 })
+    (λ t. no_ok (rw t at q))
 
-found_bad : (b : List ℕ) (x : Read (List ℕ)) (n d : ℕ) → Refused n d ≡ marked_by b x → x ≡ bad n d
+found_bad : (b : List ℕ) (x : Read (List ℕ)) (n d : ℕ) → refused n d ≡ marked_by b x → x ≡ bad n d
 found_bad b (got p r) n d q = let z : ◌≡◌ {A = ℕ} 0 1 = cc in absurd (omega arith)
 found_bad b (bad m e) n d q = cc
 
-pub found_none : (mark : ℕ) (b : List ℕ) (n d : ℕ) → Refused n d ≡ marked_by b (marked mark get_run b) → marked mark get_run b ≡ bad n d
+pub found_none : (mark : ℕ) (b : List ℕ) (n d : ℕ) → refused n d ≡ marked_by b (marked mark get_run b) → marked mark get_run b ≡ bad n d
 found_none mark b n d q = found_bad b (marked mark get_run b) n d q

@@ -1,5 +1,5 @@
 -- What was read from the front of bytes: which part it took, and the answer that says so.
-use Rattle.std.proofs.Common.{◌≡◌, ℕ, suc, ◌+◌, ◌-◌, ◌<◌, ◌≤◌, List, [], ◌∷◌, length, get_or, drop, refl, ap, ◌∙◌, arith, length-drop, drop-drop, eq-eqb, ne_eqb}
+use Rattle.std.proofs.Common.{◌≡◌, ℕ, suc, ◌+◌, ◌-◌, ◌<◌, ◌≤◌, List, [], ◌∷◌, length, drop, refl, ap, ◌∙◌, arith, length-drop, drop-drop}
 use Rattle.format.specs.Answer.{Answer, ok, refused}
 use Rattle.format.specs.Read.{Read, got, bad, then_read, marked}
 use Rattle.format.specs.Fields.{Taken, taken_from}
@@ -44,18 +44,6 @@ module _ {A : Type 0} where
   then_got (bad n d) f {v} {r} p = no_got n d v r p
 
   -- behind a mark
-  pub marked_none : (m : ℕ) (f : List ℕ → Read A) (b : List ℕ) → length b ≡ 0 → marked m f b ≡ bad 1 0
-  marked_none m f [] h = refl
-  marked_none m f (x ∷ s) h = absurd (omega arith)
-
-  pub marked_other : (m : ℕ) (f : List ℕ → Read A) (b : List ℕ) → 0 < length b → (get_or b 0 0 ≡ m → ⊥) → marked m f b ≡ bad 2 (get_or b 0 0)
-  marked_other m f [] h e = absurd (omega arith)
-  marked_other m f (x ∷ s) h e = rw (ne_eqb x m e)
-
-  pub marked_this : (m : ℕ) (f : List ℕ → Read A) (b : List ℕ) → 0 < length b → get_or b 0 0 ≡ m → marked m f b ≡ f (drop 1 b)
-  marked_this m f [] h e = absurd (omega arith)
-  marked_this m f (x ∷ s) h e = rw (eq-eqb x m e)
-
   pub marked_front : (m : ℕ) (f : List ℕ → Read A) (b : List ℕ) → ((s : List ℕ) (v : A) (r : List ℕ) → f s ≡ got v r → Front s r) → (v : A) (r : List ℕ) → marked m f b ≡ got v r → Front b r
   marked_front m f [] g v r p = no_got 1 0 v r p
   marked_front m f (x ∷ s) g v r p =

@@ -5,10 +5,11 @@ use Rattle.format.specs.Scalar.{sequence_of, predicate_of}
 use Rattle.format.specs.Encode.{fits_ref}
 use Rattle.format.specs.Read.{Read, got, bad, then_read, number, get_big, ref_read, get_ref, get_fact_id}
 use Rattle.format.proofs.Tests.{eqb_test, failed}
-use Rattle.scalar.specs.Answers.{get_fact_id_call}
+use Rattle.scalar.specs.Answers.{get_fact_id_call, begins_with}
 use Rattle.scalar.proofs.Cases.{by_test}
 use Rattle.scalar.proofs.Parts.{part_rest}
-use Rattle.scalar.proofs.Reading.{Front, Took, drop_past, front_drop, no_got, then_got, taken_got, taken_bad, took, refuses, marked_none, marked_other, marked_this, marked_front}
+use Rattle.scalar.proofs.Reading.{Front, Took, drop_past, front_drop, no_got, then_got, taken_got, taken_bad, took, refuses, marked_front}
+use Rattle.scalar.proofs.Marking.{no_mark, behind_mark, mark_taken}
 use Rattle.scalar.proofs.Integers.{big_short, big_read, big_front}
 
 -- ---- under a declared predicate: the sequence, then the predicate
@@ -33,37 +34,32 @@ abbrev unreserved : ℕ → List ℕ → Read ℕ
 unreserved r rest = if (eqb (sequence_of r) 0) (bad 9 0) (got r rest)
 
 module _ (b : List ℕ) where
-  pub id_none : length b ≡ 0 → refused 1 0 ≡ get_fact_id_call b
+  pub id_none : {n d : ℕ} → refused n d ≡ begins_with 0x51 b → refused n d ≡ get_fact_id_call b
   unfolding get_fact_id_call get_fact_id
-  id_none h = taken_bad b (marked_none 0x51 (λ s. then_read (get_big 8 s) unreserved) b h)
+  id_none p = taken_bad b (no_mark 0x51 (λ s. then_read (get_big 8 s) unreserved) b p)
 
-  module _ (l : length b ≡ 0 → ⊥) where
-    pub id_other : (get_or b 0 0 ≡ 0x51 → ⊥) → {v : ℕ} → v ≡ get_or b 0 0 → refused 2 v ≡ get_fact_id_call b
-    unfolding get_fact_id_call get_fact_id
-    id_other m w = taken_bad b (marked_other 0x51 (λ s. then_read (get_big 8 s) unreserved) b (omega arith) m ∙ rw w)
+  module _ (p : ok tt ≡ begins_with 0x51 b) where
+    this : get_fact_id b ≡ then_read (get_big 8 (drop 1 b)) unreserved
+    unfolding get_fact_id
+    this = behind_mark 0x51 b p (λ s. then_read (get_big 8 s) unreserved)
 
-    module _ (m : get_or b 0 0 ≡ 0x51) where
-      this : get_fact_id b ≡ then_read (get_big 8 (drop 1 b)) unreserved
-      unfolding get_fact_id
-      this = marked_this 0x51 (λ s. then_read (get_big 8 s) unreserved) b (omega arith) m
+    pub id_short : length b < 9 → refused 1 0 ≡ get_fact_id_call b
+    unfolding get_fact_id_call
+    id_short k = taken_bad b (this ∙ rw (big_short 8 (drop 1 b) (omega (arith, mark_taken 0x51 b p))))
 
-      pub id_short : length b < 9 → refused 1 0 ≡ get_fact_id_call b
+    module _ (k : 9 ≤ length b) {r : ℕ} (e : (r ≡ number 0 (take 8 (take (length b - 1) (drop 1 b)))) × (r < 256 ^ 8)) {s : ℕ} (q : s ≡ sequence_of r) where
+      read : get_fact_id b ≡ unreserved r (drop 8 (drop 1 b))
+      read =
+          let n : r ≡ number 0 (take 8 (drop 1 b)) = (rw (part_rest 1 b) at e.0) in
+          rw (this, big_read 8 (drop 1 b) (omega (arith, mark_taken 0x51 b p)), ← n)
+
+      pub id_reserved : s ≡ 0 → refused 9 0 ≡ get_fact_id_call b
       unfolding get_fact_id_call
-      id_short k = taken_bad b (this ∙ rw (big_short 8 (drop 1 b) (simp length-drop (omega arith))))
+      id_reserved z = taken_bad b (read ∙ rw (eq-eqb (sequence_of r) 0 (sym q ∙ z)))
 
-      module _ (k : 9 ≤ length b) {r : ℕ} (e : (r ≡ number 0 (take 8 (take (length b - 1) (drop 1 b)))) × (r < 256 ^ 8)) {s : ℕ} (q : s ≡ sequence_of r) where
-        read : get_fact_id b ≡ unreserved r (drop 8 (drop 1 b))
-        read =
-            let n : r ≡ number 0 (take 8 (drop 1 b)) = (rw (part_rest 1 b) at e.0) in
-            rw (this, big_read 8 (drop 1 b) (simp length-drop (omega arith)), ← n)
-
-        pub id_reserved : s ≡ 0 → refused 9 0 ≡ get_fact_id_call b
-        unfolding get_fact_id_call
-        id_reserved z = taken_bad b (read ∙ rw (eq-eqb (sequence_of r) 0 (sym q ∙ z)))
-
-        pub id_read : (s ≡ 0 → ⊥) → ok (record { value = r; used = 9 }) ≡ get_fact_id_call b
-        unfolding get_fact_id_call
-        id_read z = taken_got b 9 (read ∙ rw (ne_eqb (sequence_of r) 0 (λ y. z (q ∙ y)), drop_past 8 b)) k
+      pub id_read : (s ≡ 0 → ⊥) → ok (record { value = r; used = 9 }) ≡ get_fact_id_call b
+      unfolding get_fact_id_call
+      id_read z = taken_got b 9 (read ∙ rw (ne_eqb (sequence_of r) 0 (λ y. z (q ∙ y)), drop_past 8 b)) k
 
   -- the bytes behind a reference
   ref_front : (v : ℕ) (r : List ℕ) → get_fact_id b ≡ got v r → Front b r

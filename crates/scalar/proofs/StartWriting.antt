@@ -1,11 +1,15 @@
--- The beginning of a run, before its end, as a loop writes it: what Chunks and Writing say of whole runs, and nothing is left at the end.
+-- The beginning of a run, before its end, as a loop writes it: the bytes before the next zero are copied, then the zero and its mark, until nothing is left. A run is
+-- that and its end.
 use Rattle.std.proofs.Common.{◌≡◌, ℕ, ◌+◌, ◌-◌, ◌^◌, ◌<◌, ◌≤◌, List, [], ◌∷◌, ◌++◌, length, get_or, drop, set, sym, refl, ap, ◌∙◌, arith, length-append, drop_of_length-le, ne_eqb, eq-eqb}
 use lib.Seq.{slice, length-slice}
-use Rattle.format.specs.Scalar.{run_start}
+use Rattle.format.specs.Scalar.{escaped, run_start}
 use Rattle.format.specs.Fields.{put}
 use Rattle.blocks.specs.Zeros.{NoZero, ZeroFrom}
 use Rattle.blocks.proofs.Spans.{drop_split, span_slice}
-use Rattle.blocks.proofs.Put.{put_put, Left, left_chunk, left_store, left_none}
+use Rattle.format.proofs.ZeroLaws.{escaped_long}
+use Rattle.format.proofs.StartLaws.{run_end, start_long}
+use Rattle.scalar.specs.Runs.{WritesRun}
+use Rattle.blocks.proofs.Put.{put_put, set_put, length_put, Left, left_chunk, left_store, left_none}
 use Rattle.scalar.proofs.Chunks.{Free, free_rest, drop_one, chunk_free, chunk_split, chunk_long}
 
 -- ---- byte by byte
@@ -110,3 +114,24 @@ module _ {s : List ℕ} {i z : ℕ} (f : ZeroFrom s i z) {d₀ : List ℕ} {at :
 
         pub start_whole : d' ≡ put d₀ at t
         start_whole = left_none start_all
+
+-- ---- a run is its beginning and its end
+
+module _ (d : List ℕ) (at : ℕ) (s : List ℕ) (h : at + length (escaped s) ≤ length d) where
+  pub start_fits : at + length (run_start s) < length d
+  start_fits = omega (arith, escaped_long s, start_long s)
+
+  pub run_ended : {e : ℕ} {d' : List ℕ} → (e ≡ at + length (run_start s)) × (d' ≡ put d at (run_start s)) → WritesRun d at s (record { end = e + 1; zeros = e - at - length s }) (set d' e 0)
+  run_ended {e} {d'} w =
+      let n = length_put d at (run_start s) (omega (arith, start_fits)) in
+      let i : e < length d' = rw w.1 (omega (arith, start_fits, w.0)) in
+      record {
+        ends = omega (arith, escaped_long s, start_long s, w.0);
+        wrote =
+            set_put d' e 0 i
+            ∙ ap (λ (k : ℕ). put d' k (0 ∷ [])) w.0
+            ∙ ap (λ (l : List ℕ). put l (at + length (run_start s)) (0 ∷ [])) w.1
+            ∙ put_put d at (run_start s) (0 ∷ []) (omega (arith, start_fits))
+            ∙ ap (put d at) (sym (run_end s));
+        counted = omega (arith, start_long s, w.0);
+      }

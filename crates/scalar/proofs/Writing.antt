@@ -1,64 +1,14 @@
--- A run, or a run's payload, as a loop writes it: the bytes before the next zero are copied, then the zero is written, until nothing is left.
+-- A run's payload, as a loop writes it: the bytes before the next zero are copied, then the zero is written, until nothing is left.
 use Rattle.std.proofs.Common.{◌≡◌, ℕ, ◌+◌, ◌-◌, ◌^◌, ◌<◌, ◌≤◌, List, [], ◌∷◌, length, drop, set, arith}
 use lib.Seq.{slice}
-use Rattle.format.specs.Scalar.{escaped}
 use Rattle.format.specs.Fields.{put}
 use Rattle.blocks.specs.Zeros.{ZeroFrom}
 use Rattle.blocks.proofs.Put.{Left, left_store, left_none}
 use Rattle.scalar.specs.Runs.{unescape}
-use Rattle.scalar.proofs.Chunks.{escaped_ahead, escaped_copied, escaped_over, escaped_past, unescape_ahead, unescape_copied, unescape_over, unescape_past}
+use Rattle.scalar.proofs.Chunks.{unescape_ahead, unescape_copied, unescape_over, unescape_past}
 
 -- from i on the next zero is at z, and what is left to be put from o on makes the whole, t from at on
 module _ {s : List ℕ} {i z : ℕ} (f : ZeroFrom s i z) {d₀ : List ℕ} {at : ℕ} {t d : List ℕ} {o : ℕ} where
-  -- ---- a run
-
-  module _ (l : Left d₀ at t d o (escaped (drop i s))) (fits : at + length t ≤ length d₀) where
-    pub run_room : o + (z - i) ≤ length d
-    run_room = omega (arith, escaped_ahead s i z f)
-
-    pub run_place : length d₀ < 2 ^ 64 → o + (z - i) < 2 ^ 64
-    run_place n = omega (arith, run_room)
-
-    module _ {d' : List ℕ} (p : d' ≡ put d o (slice i z s)) where
-      -- a zero and its mark are next
-      module _ (h : z < length s) where
-        at_zero : Left d₀ at t d' (o + (z - i)) (0 ∷ 0xFF ∷ escaped (drop (z + 1) s))
-        at_zero = rw (escaped_over s i z f h) at (escaped_copied s i z f fits l p)
-
-        at_mark : Left d₀ at t (set d' (o + (z - i)) 0) (o + (z - i) + 1) (0xFF ∷ escaped (drop (z + 1) s))
-        at_mark = left_store fits at_zero
-
-        pub zero_room : o + (z - i) < length d'
-        zero_room = let a = at_zero in omega arith
-
-        pub mark_room : o + (z - i) + 1 < length (set d' (o + (z - i)) 0)
-        mark_room = let a = at_mark in omega arith
-
-        pub run_on : Left d₀ at t (set (set d' (o + (z - i)) 0) (o + (z - i) + 1) 0xFF) (o + (z - i) + 1 + 1) (escaped (drop (z + 1) s))
-        run_on = left_store fits at_mark
-
-      -- only its end is left
-      module _ (h : length s ≤ z) where
-        at_end : Left d₀ at t d' (o + (z - i)) (0 ∷ [])
-        at_end = rw (escaped_past s z h) at (escaped_copied s i z f fits l p)
-
-        run_all : Left d₀ at t (set d' (o + (z - i)) 0) (o + (z - i) + 1) []
-        run_all = left_store fits at_end
-
-        pub end_room : o + (z - i) < length d'
-        end_room = let a = at_end in omega arith
-
-        pub run_long : length (set d' (o + (z - i)) 0) ≡ length d₀
-        run_long = run_all.long
-
-        pub run_ends : o + (z - i) + 1 ≡ at + length t
-        run_ends = let a = run_all in omega arith
-
-        pub run_whole : set d' (o + (z - i)) 0 ≡ put d₀ at t
-        run_whole = left_none run_all
-
-  -- ---- a run's payload
-
   module _ (l : Left d₀ at t d o (unescape (drop i s))) (fits : at + length t ≤ length d₀) where
     pub payload_room : o + (z - i) ≤ length d
     payload_room = omega (arith, unescape_ahead s i z f)

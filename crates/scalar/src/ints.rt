@@ -51,9 +51,7 @@ fn write_low(buf: &mut [u8], at: usize, k: usize, n: u64)
     ensures { buf.new ≡ put buf.old at (be k n) }
 {
     let mut left = n;
-    let mut j = k;
-    while 0 < j {
-        j -= 1;
+    for j in (0..k).rev() {
         buf[at + j] = (left % 256) as u8;
         left = left / 256;
     }
@@ -97,10 +95,8 @@ pub fn read_number(s: &[u8], k: usize) -> u64
     ensures { (result ≡ number 0 (take k s.now)) × (result < 256 ^ k) }
 {
     let mut n: u64 = 0;
-    let mut i: usize = 0;
-    while i < k {
-        n = n * 256 + s[i] as u64;
-        i += 1;
+    for byte in &s[..k] {
+        n = n * 256 + u64::from(*byte);
     }
     n
 }
@@ -119,7 +115,7 @@ fn mark_width(mark: u8) -> usize
 }
 
 // How many bytes the integer or the reference takes that the rest of a key begins with, by its mark alone: neither width nor range is judged. 0 for anything else,
-// and where it is cut short.
+// and where it is cut short: a length and no Option, since none of them takes 0 bytes and whoever passes over them adds it up.
 pub fn unjudged_len(rest: &[u8]) -> usize
     ensures { result ≡ unjudged rest.now }
 {

@@ -1,47 +1,46 @@
-// Lines that the test programs print: bytes in hexadecimal, numbers, refusals.
-
+// What the test programs print: bytes in hexadecimal, and the beginning of a buffer or the refusal.
 #![tactic(auto)]
 
-fn digits(b: u8) {
-    io::print_hex(1, b as u64, 2);
-}
+use format::Refusal;
+use std::{fmt, io};
 
-// Text as it is.
-pub fn text(s: &[u8]) {
-    io::write_all(1, s);
-}
+/// Bytes in hexadecimal.
+#[derive(Clone, Copy)]
+pub struct Hex<'a>(pub &'a [u8]);
 
-// The first n bytes of a buffer, or all of a shorter one.
-pub fn bytes(s: &[u8], n: usize) {
-    for i in 0..s.len() {
-        if i < n {
-            digits(s[i]);
+impl<'a> fmt::Display for Hex<'a> {
+    fn fmt<W: fmt::Write>(&self, f: &mut fmt::Formatter<W>) -> fmt::Result {
+        for b in self.0 {
+            write!(f, "{b:02x}")?;
         }
+        Ok(())
     }
-}
-
-pub fn number(n: u64) {
-    io::print_decimal(1, n);
-}
-
-// Those bytes on a line of their own.
-pub fn line(s: &[u8], n: usize) {
-    bytes(s, n);
-    io::write_all(1, b"\n");
-}
-
-pub fn refusal(no: u32, detail: u64) {
-    io::write_all(1, b"refused ");
-    io::print_decimal(1, no as u64);
-    io::write_all(1, b" ");
-    io::print_decimal(1, detail);
-    io::write_all(1, b"\n");
 }
 
 // The first n bytes, or all of a shorter one.
 pub fn first(s: &[u8], n: usize) -> &[u8] {
-    if n < s.len() {
-        return &s[..n];
+    s.get(..n).unwrap_or(s)
+}
+
+// What a call wrote at a buffer's beginning, or its refusal, on a line.
+pub fn line(rt: &impl Print, answer: Result<usize, Refusal>, out: &[u8]) -> io::Result<()> {
+    match answer {
+        Ok(n) => println!(rt; "{}", Hex(first(out, n))),
+        Err(e) => println!(rt; "{e}"),
     }
-    s
+}
+
+// The bytes that a call wrote at a buffer's beginning; none of a refused one, which is printed.
+pub fn wrote<'a>(
+    rt: &impl Print,
+    answer: Result<usize, Refusal>,
+    out: &'a [u8],
+) -> io::Result<&'a [u8]> {
+    match answer {
+        Ok(n) => Ok(first(out, n)),
+        Err(e) => {
+            println!(rt; "{e}")?;
+            Ok(&[])
+        }
+    }
 }

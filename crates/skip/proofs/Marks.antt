@@ -1,22 +1,22 @@
 -- A field by its mark: what each function finds behind it.
 use mathlib.Core.Bool.{Bool, true, false, ◌||◌}
-use mathlib.Core.Path.{◌≡◌, refl, sym, ◌∙◌}
+use mathlib.Core.Path.{◌≡◌, refl, sym, ap, ◌∙◌}
 use mathlib.Core.List.{List, [], ◌∷◌}
 use Prim.Native.Nat.{ℕ, ◌+◌, ◌-◌, ◌≤◌, ◌<◌}
 use native.Mathlib.Omega.{arith}
 use lib.Dec.{eqb, ltb, leb}
 use lib.ListN.{length, get_or, drop}
 use borrow.Author.Tests.{ne_eqb, eqb-true, eqb-false, lt-ltb, le-ltb, ltb-true, ltb-false, le-leb, lt-leb, leb-true, leb-false}
-use Rattle.format.specs.Answer.{if, Answer, ok, refused, and_then}
-use Rattle.format.specs.Lengths.{length_in}
-use Rattle.format.specs.declared.Length.{Length}
+use Rattle.std.specs.List.{slice_get}
+use Rattle.std.proofs.Common.{Some, None}
+use Rattle.format.specs.Answer.{if, ok, refused, and_then}
 use Rattle.format.specs.Read.{Read, then_read, get_uint, starts_ff}
-use Rattle.format.specs.Fields.{Taken, taken_from}
+use Rattle.format.specs.Fields.{taken_from}
 use Rattle.format.specs.Skip.{pass_bytes, pass_field, end_of}
 use Rattle.format.specs.Cursor.{null_at, tag_at, union_mark}
-use Rattle.scalar.specs.Answers.{got_int}
+use Rattle.scalar.specs.Answers.{taken_by}
 use Rattle.scalar.specs.Numbers.{mark_width, unjudged}
-use Rattle.scalar.specs.declared.ints.GotInt.{GotInt}
+use Rattle.scalar.specs.declared.taken.Taken.{Taken as TakenInt}
 use Rattle.scalar.proofs.Cases.{by_test}
 use Rattle.scalar.proofs.Reading.{taken_bad}
 use Rattle.scalar.proofs.Integers.{big_short}
@@ -78,45 +78,18 @@ number_short escape depth (m ∷ s) z k =
     by_test (leb (mark_width m) (length s)) (λ u. let q : mark_width m + 1 ≡ 0 = rw (k, u) at z in absurd (omega arith))
     (λ u. number_passes escape depth m s (leb-true (mark_width m) 8 k) ∙ rw (big_short (mark_width m) s (leb-false (mark_width m) (length s) u)))
 
--- ---- is it the mark of a number, of a run?
-
-module _ (m : ℕ) where
-  pub below_number : m < 0x40 → false ≡ number_mark m
-  below_number h = by_test (leb (mark_width m) 8) (λ t. let l = inside_width m (leb-true (mark_width m) 8 t) in absurd (omega arith)) (λ t. sym t)
-
-  pub above_number : 0x40 ≤ m → leb m 0x51 ≡ number_mark m
-  above_number l =
-      by_test (leb m 0x51) (λ t. rw (t, le-leb (mark_width m) 8 (width_inside m l (leb-true m 0x51 t))))
-      (λ t. by_test (leb (mark_width m) 8)
-      (λ u. let k = inside_width m (leb-true (mark_width m) 8 u) in let y = leb-false m 0x51 t in absurd (omega arith))
-      (λ u. rw (t, u)))
-
-pub none_run : (s : List ℕ) → length s ≡ 0 → false ≡ run_mark (get_or s 0 0)
-none_run [] h = refl
-none_run (m ∷ s) h = absurd (omega arith)
-
-pub string_run : (m : ℕ) → m ≡ 0x21 → true ≡ run_mark m
-string_run m e = rw e
-
-pub bytes_run : (m : ℕ) → (m ≡ 0x21 → ⊥) → eqb m 0x53 ≡ run_mark m
-bytes_run m h = rw (ne_eqb m 0x21 h)
-
 -- ---- any other field
 
-module _ (depth : ℕ) (s : List ℕ) (q : Bool) (g : Length) (p : length_in g ≡ end_of s (null_at (if q 1 0) s)) where
-  pub null_passed : (n : ℕ) → g ≡ Length.Done n → ok (record { value = depth; used = n }) ≡ null_token depth q s
-  null_passed n h = rw (← p, h)
+-- a null's escape is due where it is asked for, and else inside a group
+pub due_asked : (escape : Bool) (depth : ℕ) {q : Bool} → q ≡ escape → escape ≡ true → q ≡ (escape || ltb 0 depth)
+due_asked escape depth k e = rw (k, e)
 
-  pub null_refused : (n d : ℕ) → g ≡ Length.Refused n d → refused n d ≡ null_token depth q s
-  null_refused n d h = rw (← p, h)
+pub due_inside : (escape : Bool) (depth : ℕ) {q : Bool} → q ≡ ltb 0 depth → escape ≡ false → q ≡ (escape || ltb 0 depth)
+due_inside escape depth k e = rw (k, e)
 
-or_false : (b : Bool) → b ≡ (b || false)
-or_false true = refl
-or_false false = refl
-
-or_true : (b : Bool) → true ≡ (b || true)
-or_true true = refl
-or_true false = refl
+begins : (s : List ℕ) {m : ℕ} → Some m ≡ slice_get s 0 → Begins s m
+begins [] e = let z : ◌≡◌ {A = ℕ} 0 1 = cc in absurd (omega arith)
+begins (x ∷ s) e = record { some = omega arith; first = cc }
 
 module _ (escape : Bool) (depth : ℕ) where
   field_known : (s : List ℕ) (m : ℕ) → Begins s m → field escape depth s ≡ pass_field escape depth m (drop 1 s)
@@ -134,12 +107,12 @@ module _ (escape : Bool) (depth : ℕ) where
   null_field [] b q e = let z = b.some in absurd (omega arith)
   null_field (x ∷ s) b q e = sym (rw (b.first, ← e) (null_read s q))
 
-  module _ (s : List ℕ) (b : Begins s 0x00) {r : Answer (Taken ℕ)} where
-    pub null_outside : r ≡ null_token depth escape s → depth ≡ 0 → r ≡ taken_from s (field escape depth s)
-    null_outside e h = e ∙ null_field s b escape (rw h (or_false escape))
+  module _ (s : List ℕ) (b : Begins s 0x00) {q : Bool} (e : q ≡ (escape || ltb 0 depth)) where
+    pub null_passed : {n : ℕ} → ok n ≡ end_of s (null_at (if q 1 0) s) → ok (record { value = depth; used = n }) ≡ taken_from s (field escape depth s)
+    null_passed p = ap (λ a. and_then a (λ n. ok (record { value = depth; used = n }))) p ∙ null_field s b q e
 
-    pub null_inside : r ≡ null_token depth true s → (depth ≡ 0 → ⊥) → r ≡ taken_from s (field escape depth s)
-    null_inside e h = e ∙ null_field s b true (rw (lt-ltb 0 depth (omega arith)) (or_true escape))
+    pub null_refused : {n d : ℕ} → refused n d ≡ end_of s (null_at (if q 1 0) s) → refused n d ≡ taken_from s (field escape depth s)
+    null_refused p = ap (λ a. and_then a (λ n. ok (record { value = depth; used = n }))) p ∙ null_field s b q e
 
   -- a union: its depth, then its discriminant
   union_read : (s : List ℕ) → depth < 256 → (x : Read ℕ)
@@ -159,45 +132,40 @@ module _ (escape : Bool) (depth : ℕ) where
     unfolding pass_field
     union_deep h = rw (field_known s 0x52 b, le-ltb depth 256 h)
 
-    module _ (h : depth < 256) (g : GotInt) (p : got_int g ≡ taken_from s (union_mark depth s)) where
-      pub union_passed : (v n : ℕ) → g ≡ GotInt.Value v n → ok (record { value = depth + 1; used = n }) ≡ taken_from s (field escape depth s)
-      union_passed v n e = sym (union_field s b h ∙ rw (← p, e))
+    module _ (h : depth < 256) where
+      pub union_passed : {t : TakenInt ℕ} → ok (taken_by (λ n. n) t) ≡ taken_from s (union_mark depth s) → ok (record { value = depth + 1; used = t.used }) ≡ taken_from s (field escape depth s)
+      union_passed p = sym (union_field s b h ∙ rw (← p))
 
-      pub union_refused : (n d : ℕ) → g ≡ GotInt.Refused n d → refused n d ≡ taken_from s (field escape depth s)
-      union_refused n d e = sym (union_field s b h ∙ rw (← p, e))
+      pub union_refused : {n d : ℕ} → refused n d ≡ taken_from s (union_mark depth s) → refused n d ≡ taken_from s (field escape depth s)
+      union_refused p = sym (union_field s b h ∙ rw (← p))
 
   -- no byte
-  pub left_none : (s : List ℕ) → length s ≡ 0 → refused 1 0 ≡ taken_from s (field escape depth s)
+  pub left_none : (s : List ℕ) → None ≡ slice_get s 0 → refused 1 0 ≡ taken_from s (field escape depth s)
   unfolding field
   left_none [] h = refl
-  left_none (m ∷ s) h = absurd (omega arith)
+  left_none (m ∷ s) h = let z : ◌≡◌ {A = ℕ} 0 1 = cc in absurd (omega arith)
 
-  module _ (s : List ℕ) (l : length s ≡ 0 → ⊥) where
-    pub begins : (m : ℕ) → get_or s 0 0 ≡ m → Begins s m
-    begins m e = record { some = omega arith; first = e }
+  module _ (s : List ℕ) (h : Left depth s) {m : ℕ} (b : Some m ≡ slice_get s 0) where
+    -- a record that is too deep, a number cut short
+    pub left_deep : m ≡ 0x22 → refused 6 0 ≡ taken_from s (field escape depth s)
+    unfolding pass_field
+    left_deep e = let k = begins s b in rw (field_known s m k, e, le-ltb depth 256 (h.deep (k.first ∙ e)))
 
-    module _ (h : Left depth s) where
-      -- a record that is too deep, a number cut short
-      pub left_deep : get_or s 0 0 ≡ 0x22 → refused 6 0 ≡ taken_from s (field escape depth s)
-      unfolding pass_field
-      left_deep e = rw (field_known s 0x22 (begins 0x22 e), le-ltb depth 256 (h.deep e))
+    pub left_cut : true ≡ number_mark m → refused 1 0 ≡ taken_from s (field escape depth s)
+    left_cut t = taken_bad s (number_short escape depth s h.short (rw (begins s b).first (sym t)))
 
-      pub left_cut : {q : Bool} → q ≡ number_mark (get_or s 0 0) → q ≡ true → refused 1 0 ≡ taken_from s (field escape depth s)
-      left_cut e t = taken_bad s (number_short escape depth s h.short (sym e ∙ t))
+    -- any other mark
+    other : (m ≡ 0x52 → ⊥) → (m ≡ 0x00 → ⊥) → (m ≡ 0x22 → ⊥) → number_mark m ≡ false → pass_field escape depth m (drop 1 s) ≡ Read.bad 2 m
+    unfolding pass_field
+    other u n r f =
+        rw (ne_eqb m 0x00 n, (rw (begins s b).first at h.runless), ne_eqb m 0x22 r)
+        (by_test (ltb m 0x40) (λ t. rw t)
+        (λ t. let a = ltb-false m 0x40 t in
+        let w : 0x51 < m = above a in
+        rw (t, le-ltb m 0x48 (omega arith), lt-leb m 0x50 (omega arith), ne_eqb m 0x51 (λ y. omega arith), ne_eqb m 0x52 u)))
+      where
+        above : 0x40 ≤ m → 0x51 < m
+        above l = by_test (leb m 0x51) (λ t. absurd (omega (arith, width_inside m l (leb-true m 0x51 t), leb-false (mark_width m) 8 f))) (λ t. leb-false m 0x51 t)
 
-      -- any other mark
-      module _ (u : get_or s 0 0 ≡ 0x52 → ⊥) (n : get_or s 0 0 ≡ 0x00 → ⊥) (r : get_or s 0 0 ≡ 0x22 → ⊥) where
-        other : (m : ℕ) → get_or s 0 0 ≡ m → number_mark m ≡ false → pass_field escape depth m (drop 1 s) ≡ Read.bad 2 m
-        unfolding pass_field
-        other m e f =
-            rw (ne_eqb m 0x00 (λ y. n (e ∙ y)), (rw e at h.runless), ne_eqb m 0x22 (λ y. r (e ∙ y)))
-            (by_test (ltb m 0x40) (λ t. rw t)
-            (λ t. let a = ltb-false m 0x40 t in
-            let w : 0x51 < m = above m a f in
-            rw (t, le-ltb m 0x48 (omega arith), lt-leb m 0x50 (omega arith), ne_eqb m 0x51 (λ y. omega arith), ne_eqb m 0x52 (λ y. u (e ∙ y)))))
-          where
-            above : (m : ℕ) → 0x40 ≤ m → number_mark m ≡ false → 0x51 < m
-            above m l f = by_test (leb m 0x51) (λ t. absurd (omega (arith, width_inside m l (leb-true m 0x51 t), leb-false (mark_width m) 8 f))) (λ t. leb-false m 0x51 t)
-
-        pub left_other : {q : Bool} → q ≡ number_mark (get_or s 0 0) → q ≡ false → {v : ℕ} → v ≡ get_or s 0 0 → refused 2 v ≡ taken_from s (field escape depth s)
-        left_other e f w = rw w (taken_bad s (field_known s (get_or s 0 0) (begins (get_or s 0 0) refl) ∙ other (get_or s 0 0) refl (sym e ∙ f)))
+    pub left_other : (m ≡ 0x52 → ⊥) → (m ≡ 0x00 → ⊥) → (m ≡ 0x22 → ⊥) → false ≡ number_mark m → refused 2 m ≡ taken_from s (field escape depth s)
+    left_other u n r f = taken_bad s (field_known s m (begins s b) ∙ other u n r (sym f))

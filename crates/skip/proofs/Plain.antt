@@ -1,6 +1,6 @@
 -- Integers and references by their mark alone, runs by where they end: what a turn makes of them. They open and close no group.
 use mathlib.Core.Bool.{Bool, true, false}
-use mathlib.Core.Path.{◌≡◌, refl, ◌∙◌}
+use mathlib.Core.Path.{◌≡◌, ◌∙◌}
 use mathlib.Core.List.{List, [], ◌∷◌}
 use Prim.Native.Nat.{ℕ, suc, ◌+◌, ◌-◌, ◌≤◌, ◌<◌}
 use native.Mathlib.Omega.{arith}
@@ -16,9 +16,9 @@ use Rattle.scalar.proofs.Cases.{by_test}
 use Rattle.scalar.proofs.Reading.{Took}
 use Rattle.scalar.proofs.Integers.{big_read}
 use Rattle.scalar.proofs.Measures.{end_none, end_run}
-use Rattle.skip.specs.Tokens.{pass_run, number_mark, run_mark, RunEnds}
+use Rattle.skip.specs.Tokens.{pass_run, number_mark, run_mark, Runs}
 use Rattle.skip.proofs.Marks.{number_passes, run_passes}
-use Rattle.skip.proofs.Turns.{byte_there, turn_mark}
+use Rattle.skip.proofs.Turns.{turn_mark}
 
 -- ---- numbers
 
@@ -51,33 +51,27 @@ run_there s k z = no_run (rw z at k)
     no_run : false ≡ true → ⊥
     no_run y = let z : ◌≡◌ {A = ℕ} 0 1 = cc in omega arith
 
-pub run_some : (s : List ℕ) → run_mark (get_or s 0 0) ≡ true → 1 ≤ length s
-run_some s k = byte_there s (run_there s k)
-
 module _ (s : List ℕ) (end : ℕ) (q : end ≡ run_end s 1) where
-  pub run_ends : end < length s → RunEnds s (end + 1)
+  pub run_ends : end < length s → Runs s (end + 1)
   run_ends l =
       let m = end_run s 1 end q l in
       let a = m.1 in
       let k : 1 + (end - 1 + 1) ≡ end + 1 = omega arith in
       record {
-        inside = λ z. omega arith;
-        passes = λ z depth. rw (m.2.reads, drop-drop (end - 1 + 1) 1 s, k);
-        cut = λ z. absurd (omega arith);
+        some = omega arith;
+        inside = omega arith;
+        passes = λ depth. rw (m.2.reads, drop-drop (end - 1 + 1) 1 s, k);
       }
 
-  pub run_cut : length s ≤ end → RunEnds s 0
-  run_cut l =
-      let k = end_none s 1 end q l in
-      record { inside = λ z. absurd (z refl); passes = λ z. absurd (z refl); cut = λ z depth. rw k }
+  pub run_cut : length s ≤ end → (depth : ℕ) → pass_run depth (drop 1 s) ≡ Read.bad 1 0
+  run_cut l depth = rw (end_none s 1 end q l)
 
 module _ (escape : Bool) (depth : ℕ) (s : List ℕ) (k : run_mark (get_or s 0 0) ≡ true) where
   run_turn : turn escape depth s ≡ pass_run depth (drop 1 s)
   run_turn = turn_mark escape depth s (run_there s k) ∙ run_passes escape depth (get_or s 0 0) (drop 1 s) k
 
-  module _ {r : ℕ} (p : RunEnds s r) where
-    pub run_took : (r ≡ 0 → ⊥) → Took s (turn escape depth s) depth r
-    run_took z = record { reads = run_turn ∙ p.passes z depth; some = omega arith; within = p.inside z }
+  pub run_took : {n : ℕ} → Runs s n → Took s (turn escape depth s) depth n
+  run_took p = record { reads = run_turn ∙ p.passes depth; some = p.some; within = p.inside }
 
-    pub run_refused : r ≡ 0 → turn escape depth s ≡ Read.bad 1 0
-    run_refused z = run_turn ∙ p.cut z depth
+  pub run_refused : ((depth : ℕ) → pass_run depth (drop 1 s) ≡ Read.bad 1 0) → turn escape depth s ≡ Read.bad 1 0
+  run_refused p = run_turn ∙ p depth

@@ -9,15 +9,11 @@ use lib.ListN.{length, get_or, drop, length-append}
 use lib.Seq.{drop_at}
 use borrow.Author.Tests.{eqb-true, lt-ltb, ltb-true}
 use Rattle.format.specs.Answer.{ok, refused}
-use Rattle.format.specs.Lengths.{length_in}
-use Rattle.format.specs.declared.Length.{Length}
 use Rattle.format.specs.Encode.{max_depth}
 use Rattle.format.specs.Read.{Read, ends_here}
 use Rattle.format.specs.Fields.{taken_from}
-use Rattle.format.specs.Skip.{pass_field, turn, end_of}
-use Rattle.format.specs.Cursor.{record_mark}
+use Rattle.format.specs.Skip.{pass_field, turn}
 use Rattle.format.proofs.SkipLaws.{turn_takes}
-use Rattle.scalar.proofs.Cases.{by_test}
 use Rattle.scalar.proofs.Reading.{Front, Took, took, refuses}
 use Rattle.scalar.proofs.GroupLaws.{ends_other}
 use Rattle.skip.specs.Tokens.{field}
@@ -26,12 +22,6 @@ use Rattle.skip.specs.Tokens.{field}
 
 abbrev pub Ending : ℕ → List ℕ → Bool
 Ending depth s = ltb 0 depth && ends_here s
-
-pub ends_outside : (depth : ℕ) (s : List ℕ) → depth ≡ 0 → false ≡ Ending depth s
-ends_outside depth s h = rw h
-
-pub ends_inside : (depth : ℕ) (s : List ℕ) → (depth ≡ 0 → ⊥) → {q : Bool} → q ≡ ends_here s → q ≡ Ending depth s
-ends_inside depth s h e = rw (lt-ltb 0 depth (omega arith)) e
 
 ends_some : (depth : ℕ) (s : List ℕ) → Ending depth s ≡ true → (0 < depth) × (0 < length s)
 unfolding ends_here
@@ -49,26 +39,6 @@ ends_open depth s e = (ends_some depth s e).0
 
 abbrev pub Opening : ℕ → List ℕ → Bool
 Opening depth s = eqb (get_or s 0 0) 0x22 && ltb depth max_depth
-
-pub opens_done : (depth : ℕ) (s : List ℕ) (g : Length) → length_in g ≡ end_of s (record_mark depth s) → (n : ℕ) → g ≡ Length.Done n → true ≡ Opening depth s
-opens_done depth s g p n e = go s (rw e at p)
-  where
-    go : (t : List ℕ) → ok n ≡ end_of t (record_mark depth t) → true ≡ Opening depth t
-    go [] q = let z : ◌≡◌ {A = ℕ} 0 1 = cc in absurd (omega arith)
-    go (m ∷ t) q =
-        by_test (eqb m 0x22)
-        (λ u. by_test (ltb depth 256) (λ v. rw (u, v)) (λ v. let o = rw (u, v) at q in let z : ◌≡◌ {A = ℕ} 0 1 = cc in absurd (omega arith)))
-        (λ u. let o = rw u at q in let z : ◌≡◌ {A = ℕ} 0 1 = cc in absurd (omega arith))
-
-pub opens_refused : (depth : ℕ) (s : List ℕ) (g : Length) → length_in g ≡ end_of s (record_mark depth s) → (n d : ℕ) → g ≡ Length.Refused n d → false ≡ Opening depth s
-opens_refused depth s g p n d e = go s (rw e at p)
-  where
-    go : (t : List ℕ) → refused n d ≡ end_of t (record_mark depth t) → false ≡ Opening depth t
-    go [] q = refl
-    go (m ∷ t) q =
-        by_test (eqb m 0x22)
-        (λ u. by_test (ltb depth 256) (λ v. let o = rw (u, v) at q in let z : ◌≡◌ {A = ℕ} 0 1 = cc in absurd (omega arith)) (λ v. rw (u, v)))
-        (λ u. rw u)
 
 and_both : (x y : Bool) → (x && y) ≡ true → (x ≡ true) × (y ≡ true)
 and_both true y e = (refl, e)

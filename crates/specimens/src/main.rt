@@ -5,132 +5,119 @@ mod least_ends; // least_ends.rt: the least end above a prefix
 mod optional; // optional.rt: word 7 on type sheets
 mod searches; // searches.rt: the search for a discriminant, and how many alternatives it looks at
 
-use format::Length;
-use scalar::{GotInt, GotPart, UnionTag};
+use scalar::{Taken, UnionTag};
+use show::{Hex, first};
+use std::io;
 
 // An integer written into a buffer of its own.
-fn int_line(w: u64) {
+fn int_line(rt: &impl Print, w: u64) -> io::Result<()> {
     let mut buf = [0u8; 9];
-    match scalar::put_i64(&mut buf, 0, w) {
-        Length::Refused(no, detail) => show::refusal(no, detail),
-        Length::Done(n) => show::line(&buf, n),
-    }
+    let r = scalar::put_i64(&mut buf, 0, w);
+    show::line(rt, r, &buf)
 }
 
 // An integer read: its word and the bytes it took.
-fn get_line(s: &[u8]) {
+fn get_line(rt: &impl Print, s: &[u8]) -> io::Result<()> {
     match scalar::get_i64(s) {
-        GotInt::Refused(no, detail) => show::refusal(no, detail),
-        GotInt::Value(w, used) => {
-            io::print_hex(1, w, 16);
-            io::write_all(1, b" ");
-            io::print_decimal(1, used as u64);
-            io::write_all(1, b"\n");
-        }
+        Ok(Taken { value, used }) => println!(rt; "{value:016x} {used}"),
+        Err(e) => println!(rt; "{e}"),
     }
 }
 
-fn str_line(s: &[u8]) {
+fn str_line(rt: &impl Print, s: &[u8]) -> io::Result<()> {
     let mut buf = [0u8; 16];
-    match scalar::put_str(&mut buf, 0, s) {
-        Length::Refused(no, detail) => show::refusal(no, detail),
-        Length::Done(n) => show::line(&buf, n),
-    }
+    let r = scalar::put_str(&mut buf, 0, s);
+    show::line(rt, r, &buf)
 }
 
 // A string read: its payload, in the key or in the scratch buffer.
-fn text_line(key: &[u8], scratch: &mut [u8]) {
+fn text_line(rt: &impl Print, key: &[u8], scratch: &mut [u8]) -> io::Result<()> {
     let got = scalar::get_str(key, scratch);
-    if let GotPart::Refused(no, detail) = got {
-        show::refusal(no, detail);
-        return;
+    match got {
+        Ok(_) => println!(rt; "{}", Hex(scalar::payload(key, scratch, got))),
+        Err(e) => println!(rt; "{e}"),
     }
-    let payload = scalar::payload(key, scratch, got);
-    show::line(payload, payload.len());
 }
 
-fn strinc_line(prefix: &[u8]) {
+fn strinc_line(rt: &impl Print, prefix: &[u8]) -> io::Result<()> {
     let mut buf = [0u8; 8];
-    match ends::strinc(prefix, &mut buf) {
-        Length::Refused(no, detail) => show::refusal(no, detail),
-        Length::Done(n) => show::line(&buf, n),
-    }
+    let r = ends::strinc(prefix, &mut buf);
+    show::line(rt, r, &buf)
 }
 
-fn integers() {
-    io::write_all(1, b"integers\n");
-    int_line(0);
-    int_line(255);
-    int_line(256);
-    int_line(0xffff_ffff_ffff_ffff);
-    int_line(0xffff_ffff_ffff_ff01);
-    int_line(0xffff_ffff_ffff_ff00);
-    int_line(0xffff_ffff_ffff_feff);
-    int_line(0x7fff_ffff_ffff_ffff);
-    int_line(0x8000_0000_0000_0000);
+fn integers(rt: &impl Print) -> io::Result<()> {
+    println!(rt; "integers")?;
+    int_line(rt, 0)?;
+    int_line(rt, 255)?;
+    int_line(rt, 256)?;
+    int_line(rt, 0xffff_ffff_ffff_ffff)?;
+    int_line(rt, 0xffff_ffff_ffff_ff01)?;
+    int_line(rt, 0xffff_ffff_ffff_ff00)?;
+    int_line(rt, 0xffff_ffff_ffff_feff)?;
+    int_line(rt, 0x7fff_ffff_ffff_ffff)?;
+    int_line(rt, 0x8000_0000_0000_0000)
 }
 
-fn readings() {
-    io::write_all(1, b"integers read\n");
-    get_line(b"");
-    get_line(b"\x21\x00");
-    get_line(b"\x4a\x00\x01");
-    get_line(b"\x50\x80\x00\x00\x00\x00\x00\x00\x00");
-    get_line(b"\x40\x7f\xff\xff\xff\xff\xff\xff\xfe");
-    get_line(b"\x40\x7f\xff\xff\xff\xff\xff\xff\xff");
-    get_line(b"\x47\xff");
+fn readings(rt: &impl Print) -> io::Result<()> {
+    println!(rt; "integers read")?;
+    get_line(rt, b"")?;
+    get_line(rt, b"\x21\x00")?;
+    get_line(rt, b"\x4a\x00\x01")?;
+    get_line(rt, b"\x50\x80\x00\x00\x00\x00\x00\x00\x00")?;
+    get_line(rt, b"\x40\x7f\xff\xff\xff\xff\xff\xff\xfe")?;
+    get_line(rt, b"\x40\x7f\xff\xff\xff\xff\xff\xff\xff")?;
+    get_line(rt, b"\x47\xff")
 }
 
-fn strings() {
+fn strings(rt: &impl Print) -> io::Result<()> {
     let mut scratch = [0u8; 8];
     let mut none = [0u8; 0];
-    io::write_all(1, b"strings\n");
-    str_line(b"\x00");
-    str_line(b"\xff");
-    text_line(b"\x21\x80\x00", &mut scratch);
-    text_line(b"\x21\x00\xff\x00", &mut scratch);
-    text_line(b"\x21\x00\xff\x00", &mut none);
-    text_line(b"\x21\xe2\x00", &mut scratch);
-    text_line(b"\x21\x41\x00", &mut none);
+    println!(rt; "strings")?;
+    str_line(rt, b"\x00")?;
+    str_line(rt, b"\xff")?;
+    text_line(rt, b"\x21\x80\x00", &mut scratch)?;
+    text_line(rt, b"\x21\x00\xff\x00", &mut scratch)?;
+    text_line(rt, b"\x21\x00\xff\x00", &mut none)?;
+    text_line(rt, b"\x21\xe2\x00", &mut scratch)?;
+    text_line(rt, b"\x21\x41\x00", &mut none)
 }
 
-fn judged(admitted: bool) {
+fn judged(rt: &impl Print, admitted: bool) -> io::Result<()> {
     if admitted {
-        io::write_all(1, b"admitted\n");
+        println!(rt; "admitted")
     } else {
-        io::write_all(1, b"not admitted\n");
+        println!(rt; "not admitted")
     }
 }
 
-fn sheets() {
-    io::write_all(1, b"sheets\n");
-    judged(sheet::admit_type(&[0u32; 0]));
-    judged(sheet::admit_type(&[5u32, 2, 3, 1]));
-    judged(sheet::admit_type(&[5u32, 4294967295, 1]));
-    judged(sheet::admit_value(&[2u64, 5], b"abc"));
-    judged(sheet::admit_value(&[5u64, 2, 3, 1, 1, 7], b"\x0a"));
-    judged(sheet::admit_value(&[6u64, 4294967296, 1, 0], b""));
+fn sheets(rt: &impl Print) -> io::Result<()> {
+    println!(rt; "sheets")?;
+    judged(rt, sheet::admit_type(&[0u32; 0]))?;
+    judged(rt, sheet::admit_type(&[5u32, 2, 3, 1]))?;
+    judged(rt, sheet::admit_type(&[5u32, 4294967295, 1]))?;
+    judged(rt, sheet::admit_value(&[2u64, 5], b"abc"))?;
+    judged(rt, sheet::admit_value(&[5u64, 2, 3, 1, 1, 7], b"\x0a"))?;
+    judged(rt, sheet::admit_value(&[6u64, 4294967296, 1, 0], b""))
 }
 
-fn others() {
-    io::write_all(1, b"tags, references, ends\n");
+fn others(rt: &impl Print) -> io::Result<()> {
+    println!(rt; "tags, references, ends")?;
     let tag = UnionTag::new(1);
-    let tagged = tag.bytes;
-    show::line(&tagged, tag.len);
-    show::line(&scalar::fact_ref_bytes(0x700_0000_0001), 9);
-    strinc_line(b"\x53\x0a\x00");
-    strinc_line(b"\x0a\xff");
-    strinc_line(b"\xff");
-    strinc_line(b"");
+    println!(rt; "{}", Hex(first(&tag.bytes, tag.len)))?;
+    println!(rt; "{}", Hex(&scalar::fact_ref_bytes(0x700_0000_0001)))?;
+    strinc_line(rt, b"\x53\x0a\x00")?;
+    strinc_line(rt, b"\x0a\xff")?;
+    strinc_line(rt, b"\xff")?;
+    strinc_line(rt, b"")
 }
 
-fn main() {
-    integers();
-    readings();
-    strings();
-    sheets();
-    others();
-    searches::searches();
-    least_ends::least_ends();
-    optional::optional();
+fn main(rt: HostRuntime) -> io::Result<()> {
+    integers(&rt)?;
+    readings(&rt)?;
+    strings(&rt)?;
+    sheets(&rt)?;
+    others(&rt)?;
+    searches::searches(&rt)?;
+    least_ends::least_ends(&rt)?;
+    optional::optional(&rt)
 }

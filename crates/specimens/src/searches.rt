@@ -1,31 +1,27 @@
 // U3: the alternative that a tag finds in a union, how many are left behind it, and how many were looked at.
+use std::io;
 
 // The place of its type (0: none), those left behind it, and those looked at, of the union at `at`.
-fn search_line(ty: &[u32], at: usize, tag: u64) {
+fn search_line(rt: &impl Print, ty: &[u32], at: usize, tag: u64) -> io::Result<()> {
     if !sheet::admit_type(ty) {
-        show::text(b"not admitted\n");
-        return;
+        return println!(rt; "not admitted");
     }
     let found = sheet::alternative(ty, at, tag);
-    show::text(b"tag ");
-    show::number(tag);
-    show::text(b": place ");
-    show::number(found.place as u64);
-    show::text(b", left ");
-    show::number(found.left as u64);
-    show::text(b", looked at ");
-    show::number(found.looked as u64);
-    show::text(b"\n");
+    let place = found.place.unwrap_or(0);
+    println!(rt;
+        "tag {tag}: place {place}, left {}, looked at {}",
+        found.left, found.looked
+    )
 }
 
-fn repeated_tags() {
+fn repeated_tags(rt: &impl Print) -> io::Result<()> {
     let ty = [6u32, 6, 3, 1, 1, 1, 4, 1, 1, 1, 5, 1, 9, 1];
-    show::text(b"discriminants 3 1 4 1 5 9\n");
-    search_line(&ty, 0, 3);
-    search_line(&ty, 0, 1);
-    search_line(&ty, 0, 9);
-    search_line(&ty, 0, 2);
-    search_line(&ty, 0, 4294967297);
+    println!(rt; "discriminants 3 1 4 1 5 9")?;
+    search_line(rt, &ty, 0, 3)?;
+    search_line(rt, &ty, 0, 1)?;
+    search_line(rt, &ty, 0, 9)?;
+    search_line(rt, &ty, 0, 2)?;
+    search_line(rt, &ty, 0, 4294967297)
 }
 
 // The sheet's discriminants: 0 to 89.
@@ -35,38 +31,53 @@ fn number_doses(ty: &mut [u32; 182]) {
     }
 }
 
-fn dose_lines(ty: &[u32; 182]) {
-    search_line(ty, 0, 0);
-    search_line(ty, 0, 7);
-    search_line(ty, 0, 8);
-    search_line(ty, 0, 88);
-    search_line(ty, 0, 89);
-    search_line(ty, 0, 90);
-    search_line(ty, 0, 4294967297);
+fn dose_lines(rt: &impl Print, ty: &[u32; 182]) -> io::Result<()> {
+    search_line(rt, ty, 0, 0)?;
+    search_line(rt, ty, 0, 7)?;
+    search_line(rt, ty, 0, 8)?;
+    search_line(rt, ty, 0, 88)?;
+    search_line(rt, ty, 0, 89)?;
+    search_line(rt, ty, 0, 90)?;
+    search_line(rt, ty, 0, 4294967297)
 }
 
 // The dose union: ninety alternatives, each an Int.
-fn ninety_alternatives() {
+fn ninety_alternatives(rt: &impl Print) -> io::Result<()> {
     let mut ty = [1u32; 182];
     ty[0] = 6;
     ty[1] = 90;
     number_doses(&mut ty);
-    show::text(b"ninety alternatives\n");
-    dose_lines(&ty);
+    println!(rt; "ninety alternatives")?;
+    dose_lines(rt, &ty)
 }
 
 // The first sheet has an optional type among those that are passed.
-fn other_types() {
-    show::text(b"alternatives of other types, none, a union inside a record\n");
-    search_line(&[6u32, 4, 0, 5, 3, 1, 1, 1, 1, 7, 1, 2, 6, 0, 2, 2], 0, 2);
-    search_line(&[6u32, 4, 0, 5, 3, 1, 1, 1, 1, 4, 7, 2, 6, 0, 2, 2], 0, 2);
-    search_line(&[6u32, 4, 0, 5, 3, 1, 1, 1, 1, 4, 7, 2, 6, 0, 2, 2], 0, 3);
-    search_line(&[6u32, 0], 0, 0);
-    search_line(&[5u32, 1, 6, 2, 1, 5, 0, 1, 2], 2, 1);
+fn other_types(rt: &impl Print) -> io::Result<()> {
+    println!(rt; "alternatives of other types, none, a union inside a record")?;
+    search_line(
+        rt,
+        &[6u32, 4, 0, 5, 3, 1, 1, 1, 1, 7, 1, 2, 6, 0, 2, 2],
+        0,
+        2,
+    )?;
+    search_line(
+        rt,
+        &[6u32, 4, 0, 5, 3, 1, 1, 1, 1, 4, 7, 2, 6, 0, 2, 2],
+        0,
+        2,
+    )?;
+    search_line(
+        rt,
+        &[6u32, 4, 0, 5, 3, 1, 1, 1, 1, 4, 7, 2, 6, 0, 2, 2],
+        0,
+        3,
+    )?;
+    search_line(rt, &[6u32, 0], 0, 0)?;
+    search_line(rt, &[5u32, 1, 6, 2, 1, 5, 0, 1, 2], 2, 1)
 }
 
-pub fn searches() {
-    repeated_tags();
-    ninety_alternatives();
-    other_types();
+pub fn searches(rt: &impl Print) -> io::Result<()> {
+    repeated_tags(rt)?;
+    ninety_alternatives(rt)?;
+    other_types(rt)
 }

@@ -1,30 +1,19 @@
 // Keys of the tanks, and whether one lies between two ends.
-use blocks::Order;
-use encode::Encoded;
-
-fn below(a: &[u8], b: &[u8]) -> bool {
-    match blocks::compare(a, b) {
-        Order::Less => true,
-        Order::Equal => false,
-        Order::Greater => false,
-    }
-}
+use std::io;
 
 // Does a key lie at or above the lower end and below the upper?
 pub fn between(key: &[u8], lower: &[u8], upper: &[u8]) -> bool {
-    if below(key, lower) {
-        return false;
-    }
-    below(key, upper)
+    blocks::compare(key, lower).is_ge() && blocks::compare(key, upper).is_lt()
 }
 
-// A key's length in its buffer, 0 for a refused one, which is printed.
-pub fn key_len(ty: &[u32], words: &[u64], pool: &[u8], out: &mut [u8]) -> usize {
-    match encode::encode_key(ty, words, pool, out) {
-        Encoded::Refused(no, detail) => {
-            show::refusal(no, detail);
-            0
-        }
-        Encoded::Done { length, zeros: _ } => length,
-    }
+// A key's bytes in its buffer, none of a refused one, which is printed.
+pub fn key<'a>(
+    rt: &impl Print,
+    ty: &[u32],
+    words: &[u64],
+    pool: &[u8],
+    out: &'a mut [u8; 32],
+) -> io::Result<&'a [u8]> {
+    let r = encode::encode_key(ty, words, pool, out);
+    show::wrote(rt, r.map(|done| done.length), out)
 }

@@ -1,269 +1,262 @@
 // Spans on the next field: batches from one number to another of tank 0A, and of tank 0A 00; tanks from one tag to another; batches with a field behind them; and
 // batch numbers that may be blank. For each span it prints the two ends, and by tank the batches whose keys lie between them.
-use crate::keys::{between, key_len};
-use format::Length;
-use key::Bounded;
+use crate::keys::{between, key};
+use show::{Hex, first};
+use std::io;
 
-fn batch_in(ty: &[u32], tag: &[u8], batch: u64, lower: &[u8], upper: &[u8]) -> bool {
-    let mut key = [0u8; 32];
-    let n = key_len(ty, &[5, 2, 3, tag.len() as u64, 1, batch], tag, &mut key);
-    between(show::first(&key, n), lower, upper)
+// A value: the words of its sheet and its bytes.
+#[derive(Clone, Copy)]
+struct Sheet<'a> {
+    words: &'a [u64],
+    pool: &'a [u8],
 }
 
-// Is a batch of the tank without a number between the ends?
-fn blank_in(tag: &[u8], lower: &[u8], upper: &[u8]) -> bool {
-    let mut key = [0u8; 32];
-    let n = key_len(
-        &[5, 2, 3, 7, 1],
-        &[5, 2, 3, tag.len() as u64, 0],
-        tag,
-        &mut key,
-    );
-    between(show::first(&key, n), lower, upper)
+// A value with no bytes of its own.
+fn plain<'a>(words: &'a [u64]) -> Sheet<'a> {
+    Sheet { words, pool: b"" }
 }
 
-// A batch number, which may be below 0.
-fn batch_number(batch: u64) {
-    if 0x7fff_ffff_ffff_ffff < batch {
-        show::text(b" -");
-        show::number(std::num::wrapping_sub_u64(0, batch));
-    } else {
-        show::text(b" ");
-        show::number(batch);
+// The span of keys from a lowest to a highest value behind some first ones. Its ends are handed on, a refusal is printed.
+fn span<F: FnOnce(&[u8], &[u8]) -> io::Result<()>>(
+    rt: &impl Print,
+    ty: &[u32],
+    values: Sheet,
+    lowest: Sheet,
+    highest: Sheet,
+    take: F,
+) -> io::Result<()>
+    requires { F.IsAlwaysCallable take }
+{
+    let mut lower = [0u8; 32];
+    let mut upper = [0u8; 32];
+    print!(rt; "  span   ")?;
+    match key::span(
+        ty,
+        values.words,
+        values.pool,
+        lowest.words,
+        lowest.pool,
+        highest.words,
+        highest.pool,
+        &mut lower,
+        &mut upper,
+    ) {
+        Ok(ends) => take(first(&lower, ends.lower), first(&upper, ends.upper)),
+        Err(e) => println!(rt; "{e}"),
     }
+}
+
+// Does the key of a tank's batch, or of one without a number, lie between the ends?
+fn batch_in(
+    rt: &impl Print,
+    ty: &[u32],
+    tag: &[u8],
+    batch: &[u64],
+    lower: &[u8],
+    upper: &[u8],
+) -> io::Result<bool> {
+    let mut out = [0u8; 32];
+    let n = tag.len() as u64;
+    let batch = match batch {
+        [number] => key(rt, ty, &[5, 2, 3, n, 1, *number], tag, &mut out)?,
+        _ => key(rt, ty, &[5, 2, 3, n, 0], tag, &mut out)?,
+    };
+    Ok(between(batch, lower, upper))
 }
 
 // Of the batches -1, 0 and up to 256, most about 40 and 60, those whose keys lie between the ends.
-fn batches_in(ty: &[u32], tag: &[u8], lower: &[u8], upper: &[u8]) {
-    let batches = [!0u64, 0, 39, 40, 41, 50, 59, 60, 61, 255, 256];
-    for i in 0..11 {
-        if batch_in(ty, tag, batches[i], lower, upper) {
-            batch_number(batches[i]);
+fn batches_in(
+    rt: &impl Print,
+    ty: &[u32],
+    tag: &[u8],
+    lower: &[u8],
+    upper: &[u8],
+) -> io::Result<()> {
+    for batch in [-1i64, 0, 39, 40, 41, 50, 59, 60, 61, 255, 256] {
+        if batch_in(rt, ty, tag, &[batch.cast_unsigned()], lower, upper)? {
+            print!(rt; " {batch}")?;
         }
     }
+    println!(rt; "")
 }
 
-fn tank(tag: &[u8]) {
-    show::text(b"    tank ");
-    show::bytes(tag, tag.len());
-    show::text(b":");
-}
-
-fn tank_line(tag: &[u8], lower: &[u8], upper: &[u8]) {
-    tank(tag);
-    batches_in(&[5, 2, 3, 1], tag, lower, upper);
-    show::text(b"\n");
+fn tank_line(rt: &impl Print, tag: &[u8], lower: &[u8], upper: &[u8]) -> io::Result<()> {
+    print!(rt; "    tank {}:", Hex(tag))?;
+    batches_in(rt, &[5, 2, 3, 1], tag, lower, upper)
 }
 
 // The same of tanks whose batches may have no number.
-fn blank_line(tag: &[u8], lower: &[u8], upper: &[u8]) {
-    tank(tag);
-    if blank_in(tag, lower, upper) {
-        show::text(b" blank");
+fn blank_line(rt: &impl Print, tag: &[u8], lower: &[u8], upper: &[u8]) -> io::Result<()> {
+    print!(rt; "    tank {}:", Hex(tag))?;
+    if batch_in(rt, &[5, 2, 3, 7, 1], tag, &[], lower, upper)? {
+        print!(rt; " blank")?;
     }
-    batches_in(&[5, 2, 3, 7, 1], tag, lower, upper);
-    show::text(b"\n");
+    batches_in(rt, &[5, 2, 3, 7, 1], tag, lower, upper)
 }
 
-fn ends_line(lower: &[u8], upper: &[u8]) {
-    show::bytes(lower, lower.len());
-    show::text(b" to ");
-    show::line(upper, upper.len());
+fn ends_line(rt: &impl Print, lower: &[u8], upper: &[u8]) -> io::Result<()> {
+    println!(rt; "{} to {}", Hex(lower), Hex(upper))
 }
 
 // What the ends take in of the two tanks and of those around them.
-fn tanks_in(lower: &[u8], upper: &[u8]) {
-    ends_line(lower, upper);
-    tank_line(b"\x09", lower, upper);
-    tank_line(b"\x0a", lower, upper);
-    tank_line(b"\x0a\x00", lower, upper);
-    tank_line(b"\x0a\x00\x00", lower, upper);
-    tank_line(b"\x0a\x01", lower, upper);
-    tank_line(b"\x0b", lower, upper);
+fn tanks_in(rt: &impl Print, lower: &[u8], upper: &[u8]) -> io::Result<()> {
+    ends_line(rt, lower, upper)?;
+    tank_line(rt, b"\x09", lower, upper)?;
+    tank_line(rt, b"\x0a", lower, upper)?;
+    tank_line(rt, b"\x0a\x00", lower, upper)?;
+    tank_line(rt, b"\x0a\x00\x00", lower, upper)?;
+    tank_line(rt, b"\x0a\x01", lower, upper)?;
+    tank_line(rt, b"\x0b", lower, upper)
 }
 
 // Batches from the lowest number to the highest of one tank: k is 1.
-fn batches(tag: &[u8], lowest: u64, highest: u64) {
-    let mut lower = [0u8; 32];
-    let mut upper = [0u8; 32];
-    show::text(b"  span   ");
-    match key::span(
+fn batches(rt: &impl Print, tag: &[u8], lowest: u64, highest: u64) -> io::Result<()> {
+    let tank = Sheet {
+        words: &[5, 1, 3, tag.len() as u64],
+        pool: tag,
+    };
+    span(
+        rt,
         &[5, 2, 3, 1],
-        &[5, 1, 3, tag.len() as u64],
-        tag,
-        &[1, lowest],
-        b"",
-        &[1, highest],
-        b"",
-        &mut lower,
-        &mut upper,
-    ) {
-        Bounded::Refused(no, detail) => show::refusal(no, detail),
-        Bounded::Done(low, high) => {
-            tanks_in(show::first(&lower, low), show::first(&upper, high));
-        }
-    }
+        tank,
+        plain(&[1, lowest]),
+        plain(&[1, highest]),
+        |lower, upper| tanks_in(rt, lower, upper),
+    )
 }
 
 // Both tanks begin with the same bytes, and each span holds the batches of its own.
-fn batches_of_both() {
-    show::text(b"batches 40 to 60 of tank 0A\n");
-    batches(b"\x0a", 40, 60);
-    show::text(b"batches 40 to 60 of tank 0A 00\n");
-    batches(b"\x0a\x00", 40, 60);
-    show::text(b"batches -1 to 0 of tank 0A\n");
-    batches(b"\x0a", 0xffff_ffff_ffff_ffff, 0);
-    show::text(b"batches 60 to 40 of tank 0A\n");
-    batches(b"\x0a", 60, 40);
+fn batches_of_both(rt: &impl Print) -> io::Result<()> {
+    println!(rt; "batches 40 to 60 of tank 0A")?;
+    batches(rt, b"\x0a", 40, 60)?;
+    println!(rt; "batches 40 to 60 of tank 0A 00")?;
+    batches(rt, b"\x0a\x00", 40, 60)?;
+    println!(rt; "batches -1 to 0 of tank 0A")?;
+    batches(rt, b"\x0a", 0xffff_ffff_ffff_ffff, 0)?;
+    println!(rt; "batches 60 to 40 of tank 0A")?;
+    batches(rt, b"\x0a", 60, 40)
 }
 
 // One batch: the span's ends are those that the bounds call gives for the first two fields of its key.
-fn one_batch() {
+fn one_batch(rt: &impl Print) -> io::Result<()> {
     let mut lower = [0u8; 32];
     let mut upper = [0u8; 32];
-    show::text(b"batches 40 to 40 of tank 0A, and the bounds of batch 40\n");
-    batches(b"\x0a", 40, 40);
-    show::text(b"  bounds ");
-    match key::bounds(
-        &[5, 2, 3, 1],
-        b"\x53\x0a\x00\x49\x28",
-        2,
-        &mut lower,
-        &mut upper,
-    ) {
-        Bounded::Refused(no, detail) => show::refusal(no, detail),
-        Bounded::Done(low, high) => {
-            tanks_in(show::first(&lower, low), show::first(&upper, high));
-        }
+    println!(rt; "batches 40 to 40 of tank 0A, and the bounds of batch 40")?;
+    batches(rt, b"\x0a", 40, 40)?;
+    print!(rt; "  bounds ")?;
+    let batch = b"\x53\x0a\x00\x49\x28";
+    match key::bounds(&[5, 2, 3, 1], batch, 2, &mut lower, &mut upper) {
+        Ok(ends) => tanks_in(rt, first(&lower, ends.lower), first(&upper, ends.upper)),
+        Err(e) => println!(rt; "{e}"),
     }
 }
 
 // strinc of the highest's bytes as the upper end.
-fn strinc_line(lower: &[u8], highest: &[u8]) {
+fn strinc_line(rt: &impl Print, lower: &[u8], highest: &[u8]) -> io::Result<()> {
     let mut upper = [0u8; 32];
-    show::text(b"  strinc ");
+    print!(rt; "  strinc ")?;
     match ends::strinc(highest, &mut upper) {
-        Length::Refused(no, detail) => show::refusal(no, detail),
-        Length::Done(n) => tanks_in(lower, show::first(&upper, n)),
+        Ok(n) => tanks_in(rt, lower, first(&upper, n)),
+        Err(e) => println!(rt; "{e}"),
     }
 }
 
 // Tanks from one tag to another, with all their batches: k is 0. Here strinc takes in tank 0A 00.
-fn tanks_to() {
-    let mut lower = [0u8; 32];
-    let mut upper = [0u8; 32];
-    show::text(b"tanks 09 to 0A\n");
-    show::text(b"  span   ");
-    match key::span(
+fn tanks_to(rt: &impl Print) -> io::Result<()> {
+    let lowest = Sheet {
+        words: &[3, 1],
+        pool: b"\x09",
+    };
+    let highest = Sheet {
+        words: &[3, 1],
+        pool: b"\x0a",
+    };
+    println!(rt; "tanks 09 to 0A")?;
+    span(
+        rt,
         &[5, 2, 3, 1],
-        &[5, 0],
-        b"",
-        &[3, 1],
-        b"\x09",
-        &[3, 1],
-        b"\x0a",
-        &mut lower,
-        &mut upper,
-    ) {
-        Bounded::Refused(no, detail) => show::refusal(no, detail),
-        Bounded::Done(low, high) => {
-            tanks_in(show::first(&lower, low), show::first(&upper, high));
-            strinc_line(show::first(&lower, low), b"\x53\x0a\x00");
-        }
-    }
+        plain(&[5, 0]),
+        lowest,
+        highest,
+        |lower, upper| {
+            tanks_in(rt, lower, upper)?;
+            strinc_line(rt, lower, b"\x53\x0a\x00")
+        },
+    )
 }
 
 // A dose into a batch of tank 0A: a key with a field behind the one that the span is on.
-fn dose_line(batch: u64, dose: u64, lower: &[u8], upper: &[u8]) {
-    let mut key = [0u8; 32];
-    let n = key_len(
-        &[5, 3, 3, 1, 4, 7],
-        &[5, 3, 3, 1, 1, batch, 4, dose],
-        b"\x0a",
-        &mut key,
-    );
-    show::text(b"    ");
-    show::bytes(&key, n);
-    if between(show::first(&key, n), lower, upper) {
-        show::text(b" in\n");
+fn dose_line(rt: &impl Print, batch: u64, dose: u64, lower: &[u8], upper: &[u8]) -> io::Result<()> {
+    let mut out = [0u8; 32];
+    let words = [5, 3, 3, 1, 1, batch, 4, dose];
+    let dose = key(rt, &[5, 3, 3, 1, 4, 7], &words, b"\x0a", &mut out)?;
+    let lies = if between(dose, lower, upper) {
+        "in"
     } else {
-        show::text(b" out\n");
-    }
+        "out"
+    };
+    println!(rt; "    {} {lies}", Hex(dose))
 }
 
-fn doses_in(lower: &[u8], upper: &[u8]) {
-    ends_line(lower, upper);
-    dose_line(39, 0x7ff_ffff_ffff, lower, upper);
-    dose_line(40, 0x700_0000_0001, lower, upper);
-    dose_line(60, 0x7ff_ffff_ffff, lower, upper);
-    dose_line(61, 0x700_0000_0001, lower, upper);
+fn doses_in(rt: &impl Print, lower: &[u8], upper: &[u8]) -> io::Result<()> {
+    ends_line(rt, lower, upper)?;
+    dose_line(rt, 39, 0x7ff_ffff_ffff, lower, upper)?;
+    dose_line(rt, 40, 0x700_0000_0001, lower, upper)?;
+    dose_line(rt, 60, 0x7ff_ffff_ffff, lower, upper)?;
+    dose_line(rt, 61, 0x700_0000_0001, lower, upper)
 }
 
-fn doses() {
-    let mut lower = [0u8; 32];
-    let mut upper = [0u8; 32];
-    show::text(b"doses of batches 40 to 60 of tank 0A\n");
-    show::text(b"  span   ");
-    match key::span(
+fn doses(rt: &impl Print) -> io::Result<()> {
+    let tank = Sheet {
+        words: &[5, 1, 3, 1],
+        pool: b"\x0a",
+    };
+    println!(rt; "doses of batches 40 to 60 of tank 0A")?;
+    span(
+        rt,
         &[5, 3, 3, 1, 4, 7],
-        &[5, 1, 3, 1],
-        b"\x0a",
-        &[1, 40],
-        b"",
-        &[1, 60],
-        b"",
-        &mut lower,
-        &mut upper,
-    ) {
-        Bounded::Refused(no, detail) => show::refusal(no, detail),
-        Bounded::Done(low, high) => {
-            doses_in(show::first(&lower, low), show::first(&upper, high));
-        }
-    }
+        tank,
+        plain(&[1, 40]),
+        plain(&[1, 60]),
+        |lower, upper| doses_in(rt, lower, upper),
+    )
 }
 
-fn blanks_in(lower: &[u8], upper: &[u8]) {
-    ends_line(lower, upper);
-    blank_line(b"\x0a", lower, upper);
-    blank_line(b"\x0a\x00", lower, upper);
+fn blanks_in(rt: &impl Print, lower: &[u8], upper: &[u8]) -> io::Result<()> {
+    ends_line(rt, lower, upper)?;
+    blank_line(rt, b"\x0a", lower, upper)?;
+    blank_line(rt, b"\x0a\x00", lower, upper)
 }
 
 // Batches of tank 0A whose number may be blank, which comes before every number.
-fn numbered(lowest: &[u64], highest: &[u64]) {
-    let mut lower = [0u8; 32];
-    let mut upper = [0u8; 32];
-    show::text(b"  span   ");
-    match key::span(
+fn numbered(rt: &impl Print, lowest: &[u64], highest: &[u64]) -> io::Result<()> {
+    let tank = Sheet {
+        words: &[5, 1, 3, 1],
+        pool: b"\x0a",
+    };
+    span(
+        rt,
         &[5, 2, 3, 7, 1],
-        &[5, 1, 3, 1],
-        b"\x0a",
-        lowest,
-        b"",
-        highest,
-        b"",
-        &mut lower,
-        &mut upper,
-    ) {
-        Bounded::Refused(no, detail) => show::refusal(no, detail),
-        Bounded::Done(low, high) => {
-            blanks_in(show::first(&lower, low), show::first(&upper, high));
-        }
-    }
+        tank,
+        plain(lowest),
+        plain(highest),
+        |lower, upper| blanks_in(rt, lower, upper),
+    )
 }
 
-fn blank_numbers() {
-    show::text(b"no number to batch 60 of tank 0A\n");
-    numbered(&[0], &[1, 60]);
-    show::text(b"no number to no number\n");
-    numbered(&[0], &[0]);
-    show::text(b"batch 40 to no number\n");
-    numbered(&[1, 40], &[0]);
+fn blank_numbers(rt: &impl Print) -> io::Result<()> {
+    println!(rt; "no number to batch 60 of tank 0A")?;
+    numbered(rt, &[0], &[1, 60])?;
+    println!(rt; "no number to no number")?;
+    numbered(rt, &[0], &[0])?;
+    println!(rt; "batch 40 to no number")?;
+    numbered(rt, &[1, 40], &[0])
 }
 
-pub fn spans() {
-    batches_of_both();
-    one_batch();
-    tanks_to();
-    doses();
-    blank_numbers();
+pub fn spans(rt: &impl Print) -> io::Result<()> {
+    batches_of_both(rt)?;
+    one_batch(rt)?;
+    tanks_to(rt)?;
+    doses(rt)?;
+    blank_numbers(rt)
 }

@@ -47,6 +47,32 @@ width_fits (a ∷ r) =
     let k : width_of (second a r) ≤ length (a ∷ r) = omega (arith, second_fits a r) in
     either (ltb a 0x80) 1 a (second a r) (length (a ∷ r)) h k
 
+-- ---- it is at least one byte wide
+
+chosen : (t : Bool) (w j n k : ℕ) (y : Char) → 0 < w → (char n k ≡ y → 0 < n) → char n k ≡ when t (char w j) y → 0 < n
+chosen true w j n k y l f e = let q : n ≡ w = cc in omega arith
+chosen false w j n k y l f e = f e
+
+fourth_wide : (a b c : ℕ) (r : List ℕ) (n k : ℕ) → char n k ≡ fourth a b c r → 0 < n
+unfolding fourth
+fourth_wide a b c [] n k e = cc
+fourth_wide a b c (d ∷ r) n k e = chosen (is4 a b c d) 4 (code4 a b c d) n k none (omega arith) (λ z. cc) e
+
+third_wide : (a b : ℕ) (r : List ℕ) (n k : ℕ) → char n k ≡ third a b r → 0 < n
+unfolding third
+third_wide a b [] n k e = cc
+third_wide a b (c ∷ r) n k e = chosen (is3 a b c) 3 (code3 a b c) n k (fourth a b c r) (omega arith) (fourth_wide a b c r n k) e
+
+second_wide : (a : ℕ) (r : List ℕ) (n k : ℕ) → char n k ≡ second a r → 0 < n
+unfolding second
+second_wide a [] n k e = cc
+second_wide a (b ∷ r) n k e = chosen (is2 a b) 2 (code2 a b) n k (third a b r) (omega arith) (third_wide a b r n k) e
+
+pub char_wide : (s : List ℕ) (n k : ℕ) → char n k ≡ first_char s → 0 < n
+unfolding first_char
+char_wide [] n k e = cc
+char_wide (a ∷ r) n k e = chosen (ltb a 0x80) 1 a n k (second a r) (omega arith) (second_wide a r n k) e
+
 -- ---- it depends on no byte behind it
 
 -- a case that the bytes left are too few for, and a case that they decide

@@ -1,18 +1,12 @@
--- The ranges of bytes, from what a branch says, and the bounds that a test gives.
+-- The ranges of bytes: what bounds say of a test, and the bounds that a test gives.
 use Prim.Native.Nat.{ℕ, ◌≤◌, ◌<◌}
 use mathlib.Core.Bool.{Bool, true, false, ◌&&◌, ◌||◌, or-false}
 use mathlib.Core.Logic.{◌⊎◌, inl, inr, ⊎_elim}
-use mathlib.Core.Path.{◌≡◌, refl, ap, sym, ◌∙◌}
+use mathlib.Core.Path.{◌≡◌, refl, sym, ◌∙◌}
 use native.Mathlib.Omega.{arith}
 use lib.Dec.{leb, eqb}
-use borrow.Author.Tests.{le-leb, lt-leb, eq-eqb, ne_eqb, leb-true, leb-false, eqb-true}
+use borrow.Author.Tests.{le-leb, lt-leb, ne_eqb, leb-true, leb-false, eqb-true}
 use Rattle.format.specs.Utf8.{within, is_tail, lead3, lead4, is2, is3, is4}
-
-pub within_above : (lo hi b : ℕ) → lo ≤ b → leb b hi ≡ within lo hi b
-within_above lo hi b h = rw (le-leb lo b h)
-
-pub within_below : (lo hi b : ℕ) → b < lo → false ≡ within lo hi b
-within_below lo hi b h = rw (lt-leb lo b h)
 
 pub inside : (lo hi b : ℕ) → lo ≤ b → b ≤ hi → within lo hi b ≡ true
 inside lo hi b l h = rw (le-leb lo b l, le-leb b hi h)
@@ -27,30 +21,7 @@ above lo hi b h = go (leb lo b)
     go true = lt-leb b hi h
     go false = refl
 
--- an && that goes on to its second half, and one that does not
-pub and_go : {x y r s : Bool} → r ≡ x → r ≡ true → s ≡ y → s ≡ (x && y)
-and_go {x} {y} {r} {s} e t f = f ∙ ap (λ (z : Bool). z && y) (sym t ∙ e)
-
-pub and_stop : (x y : Bool) {r : Bool} → r ≡ x → r ≡ false → false ≡ (x && y)
-and_stop x y e t = ap (λ (z : Bool). z && y) (sym t ∙ e)
-
 module _ (a b : ℕ) where
-  pub lead3_first : a ≡ 0xE0 → within 0xA0 0xBF b ≡ lead3 a b
-  unfolding lead3
-  lead3_first e = rw (eq-eqb a 0xE0 e, below 0xE1 0xEC a (omega arith), ne_eqb a 0xED (λ z. omega arith), below 0xEE 0xEF a (omega arith)) (simp or-false)
-
-  pub lead3_surrogate : a ≡ 0xED → within 0x80 0x9F b ≡ lead3 a b
-  unfolding lead3
-  lead3_surrogate e = rw (ne_eqb a 0xE0 (λ z. omega arith), above 0xE1 0xEC a (omega arith), eq-eqb a 0xED e, below 0xEE 0xEF a (omega arith)) (simp or-false)
-
-  pub lead3_low : (a ≡ 0xE0 → ⊥) → a < 0xE1 → false ≡ lead3 a b
-  unfolding lead3
-  lead3_low n h = rw (ne_eqb a 0xE0 n, below 0xE1 0xEC a h, ne_eqb a 0xED (λ z. omega arith), below 0xEE 0xEF a (omega arith))
-
-  pub lead3_high : 0xEF < a → false ≡ lead3 a b
-  unfolding lead3
-  lead3_high h = rw (ne_eqb a 0xE0 (λ z. omega arith), above 0xE1 0xEC a (omega arith), ne_eqb a 0xED (λ z. omega arith), above 0xEE 0xEF a h)
-
   pub lead3_plain : (a ≡ 0xE0 → ⊥) → (a ≡ 0xED → ⊥) → 0xE1 ≤ a → a ≤ 0xEF → is_tail b ≡ lead3 a b
   unfolding lead3
   lead3_plain n m l h = go (leb a 0xEC) refl
@@ -62,26 +33,6 @@ module _ (a b : ℕ) where
       go false e =
           let k = leb-false a 0xEC e in
           rw (ne_eqb a 0xE0 n, above 0xE1 0xEC a k, ne_eqb a 0xED m, inside 0xEE 0xEF a (omega arith) h)
-
-  pub lead4_first : a ≡ 0xF0 → within 0x90 0xBF b ≡ lead4 a b
-  unfolding lead4
-  lead4_first e = rw (eq-eqb a 0xF0 e, below 0xF1 0xF3 a (omega arith), ne_eqb a 0xF4 (λ z. omega arith)) (simp or-false)
-
-  pub lead4_last : a ≡ 0xF4 → within 0x80 0x8F b ≡ lead4 a b
-  unfolding lead4
-  lead4_last e = rw (ne_eqb a 0xF0 (λ z. omega arith), above 0xF1 0xF3 a (omega arith), eq-eqb a 0xF4 e)
-
-  pub lead4_low : (a ≡ 0xF0 → ⊥) → a < 0xF1 → false ≡ lead4 a b
-  unfolding lead4
-  lead4_low n h = rw (ne_eqb a 0xF0 n, below 0xF1 0xF3 a h, ne_eqb a 0xF4 (λ z. omega arith))
-
-  pub lead4_high : (a ≡ 0xF4 → ⊥) → 0xF3 < a → false ≡ lead4 a b
-  unfolding lead4
-  lead4_high m h = rw (ne_eqb a 0xF0 (λ z. omega arith), above 0xF1 0xF3 a h, ne_eqb a 0xF4 m)
-
-  pub lead4_plain : (a ≡ 0xF0 → ⊥) → (a ≡ 0xF4 → ⊥) → 0xF1 ≤ a → a ≤ 0xF3 → is_tail b ≡ lead4 a b
-  unfolding lead4
-  lead4_plain n m l h = rw (ne_eqb a 0xF0 n, inside 0xF1 0xF3 a l h, ne_eqb a 0xF4 m) (simp or-false)
 
 -- bounds from tests that held
 and_both : (x y : Bool) → (x && y) ≡ true → (x ≡ true) × (y ≡ true)

@@ -5,7 +5,7 @@ use mathlib.Core.Bool.{true, false}
 use mathlib.Core.Path.{◌≡◌, refl, ap, sym, subst, ◌∙◌}
 use native.Mathlib.Omega.{arith}
 use lib.ListN.{length, get_or, drop}
-use Rattle.format.specs.Utf8.{utf8, lead3, is2, is3}
+use Rattle.format.specs.Utf8.{utf8, width_of, lead3, is2, is3}
 use Rattle.text.specs.Rows.{Lies}
 use Rattle.text.proofs.Ranges.{inside, above, lead3_plain}
 use Rattle.text.proofs.Chars.{three_at}
@@ -23,8 +23,8 @@ module _ (s : List ℕ) where
       let no : is2 x y ≡ false = rw (above 0xC2 0xDF x (omega arith)) in
       let lead : lead3 x y ≡ true = sym (lead3_plain x y (λ e. omega arith) a.2 a.0 a.1) ∙ inside 0x80 0xBF y b.0 b.1 in
       let yes : is3 x y z ≡ true = rw (lead, inside 0x80 0xBF z c.0 c.1) in
-      let shows = three_at s at (omega arith) (omega arith) (sym no) refl (omega arith) (sym yes) refl refl in
-      step_on_lem s at 3 shows.width (λ e. omega arith)
+      let e = three_at s at x (omega arith) refl (omega arith) y (omega arith) refl (sym no) refl z (omega arith) refl (sym yes) refl refl in
+      step_on_lem s at 3 (ap width_of e) (λ e. omega arith)
 
   -- m of them
   pub row : (m i : ℕ) → i + 3 * m ≤ length s → ((j : ℕ) → j < 3 * m → Lies j (get_or s (i + j) 0)) → utf8 (drop i s) ≡ utf8 (drop (i + 3 * m) s)

@@ -3,32 +3,18 @@ ghost use Rattle.std.specs.Prelude.{◌≡◌, true, ◌+◌, ◌*◌, ◌≤◌
 ghost use Rattle.format.specs.Utf8.{utf8};
 ghost use Rattle.text.specs.Rows.{Lies};
 
-// 0 for a byte that may stand j places behind the first of characters of three bytes. Those that begin with E0 or ED are left out: their second byte has a range of its own.
-fn outside(b: u8, j: usize) -> u8
-    ensures { result ≡ 0 → Lies j b }
+// Is a byte in range j places behind the first of characters of three bytes? Those that begin with E0 or ED are left out: their second byte has a range of its own.
+fn lies(b: u8, j: usize) -> bool
+    ensures { result ≡ true → Lies j b }
 {
     if j % 3 == 0 {
-        if b < 0xE1 {
-            return 1;
-        }
-        if 0xEF < b {
-            return 1;
-        }
-        if b == 0xED {
-            return 1;
-        }
-        return 0;
+        matches!(b, 0xE1..=0xEF) && b != 0xED
+    } else {
+        matches!(b, 0x80..=0xBF)
     }
-    if b < 0x80 {
-        return 1;
-    }
-    if 0xBF < b {
-        return 1;
-    }
-    0
 }
 
-// Are there m characters of three bytes from i on? What is outside is joined by or and tested once. A no says nothing.
+// Are there m characters of three bytes from i on? All bytes are asked, with no exit: the loop is vector code. A no says nothing.
 fn triples(s: &[u8], i: usize, m: usize) -> bool
     requires { (i ≤ length s.now) × (m ≤ 16) }
     ensures { result ≡ true → (i + 3 * m ≤ length s.now) × (utf8 (drop i s.now) ≡ utf8 (drop (i + 3 * m) s.now)) }
@@ -37,13 +23,11 @@ fn triples(s: &[u8], i: usize, m: usize) -> bool
     if s.len() - i < k {
         return false;
     }
-    let mut n: u8 = 0;
-    let mut j: usize = 0;
-    while j < k {
-        n = n | outside(s[i + j], j);
-        j += 1;
+    let mut all = true;
+    for j in 0..k {
+        all &= lies(s[i + j], j);
     }
-    n == 0
+    all
 }
 
 // The place behind the blocks of m characters of three bytes from a place on.
@@ -63,10 +47,7 @@ pub fn past_threes(s: &[u8], from: usize) -> usize
     requires { from ≤ length s.now }
     ensures { (from ≤ result) × (result ≤ length s.now) × (utf8 (drop from s.now) ≡ utf8 (drop result s.now)) }
 {
-    if s.len() <= from {
-        return from;
-    }
-    if s[from] < 0xE1 {
+    if !matches!(s.get(from), Some(0xE1..)) {
         return from;
     }
     let wide = past_triples(s, from, 16);

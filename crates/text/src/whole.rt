@@ -3,7 +3,7 @@ ghost use Rattle.std.specs.Prelude.{◌≡◌, ◌≤◌, ◌<◌, length};
 ghost use Rattle.format.specs.Utf8.{utf8};
 ghost use Rattle.text.specs.Walk.{Walked};
 
-use super::characters::char_width;
+use super::characters::char_at;
 use super::threes::past_threes;
 
 // The end of the block of 32 that begins at a place, or of the bytes.
@@ -21,11 +21,10 @@ fn walk(s: &[u8], from: usize, stop: usize) -> usize
 {
     let mut at: usize = from;
     while at < stop {
-        let w = char_width(s, at);
-        if w == 0 {
+        let Some(c) = char_at(s, at) else {
             return at;
-        }
-        at += w;
+        };
+        at += c.width;
     }
     at
 }

@@ -9,7 +9,8 @@ use Rattle.format.specs.Fields.{Taken, Place, in_key, in_scratch, Payload}
 use Rattle.format.specs.Zeros.{zeros}
 use Rattle.format.specs.Spans.{span_call, prefix_call}
 use Rattle.decode.specs.declared.Decoded.{Decoded}
-use Rattle.decode.specs.declared.CheckedKey.{CheckedKey}
+use Rattle.read.specs.declared.Refused.{Refused}
+use Rattle.std.specs.Prelude.{Result}
 use Rattle.decode.specs.Answers as decode
 use Rattle.tuple.specs.declared.answers.Length.{Length}
 use Rattle.tuple.specs.declared.answers.Encoded.{Encoded}
@@ -113,10 +114,10 @@ abbrev pub scratch_of : (len used : ℕ) → Taken Place
 scratch_of len n = record { value = in_scratch len; used = n }
 
 -- the answers of the decoding calls, whose definitions give the buffers too
-abbrev pub decoded_numbers : Decoded → Sheet
+abbrev pub decoded_numbers : Result Decoded Refused → Sheet
 decoded_numbers x = sheet_of (decode.decoded_of x [] []).answer (decode.decoded_of x [] []).begun
 
-abbrev pub checked_numbers : CheckedKey → Sheet
+abbrev pub checked_numbers : Result ℕ Refused → Sheet
 checked_numbers x = checked_of (decode.checked_of x).answer (decode.checked_of x).begun
 
 -- ---- every refusal is one of the numbered ones; so refusal 0 says that a call was accepted

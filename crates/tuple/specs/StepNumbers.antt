@@ -1,7 +1,9 @@
 -- Each step of format's cursors and of its string reader as the numbers of its C struct, for every case. A refused step has its number and its detail, the place
 -- and the depth that were given, and 0 in every other field.
-use Rattle.std.specs.Prelude.{◌≡◌, List, Bool, ℕ, eqb}
+use Rattle.std.specs.Prelude.{◌≡◌, List, Bool, ℕ, Result, Ok, Err}
 use Rattle.format.specs.Answer.{if, Answer, ok, refused}
+use Rattle.format.specs.Refusals.{number_of, detail_of}
+use Rattle.format.specs.declared.refusal.Refusal.{Refusal}
 use Rattle.format.specs.Fields.{Place, in_key, in_scratch}
 use Rattle.format.specs.Cursor as cursor
 use Rattle.format.specs.Chars as chars
@@ -57,9 +59,10 @@ abbrev pub opened_length : Answer (List ℕ) → Length
 opened_length (ok bytes) = record { refusal = 0; detail = 0; length = 0 }
 opened_length (refused n d) = record { refusal = n; detail = d; length = 0 }
 
--- the same of a refusal and a detail; refusal 0 is none
-abbrev pub opening_length : (refusal detail : ℕ) → Length
-opening_length n d = if (eqb n 0) (record { refusal = 0; detail = 0; length = 0 }) (record { refusal = n; detail = d; length = 0 })
+-- the same of whether one opens
+abbrev pub opening_length : Result Unit Refusal → Length
+opening_length (Ok u) = record { refusal = 0; detail = 0; length = 0 }
+opening_length (Err e) = record { refusal = number_of e; detail = detail_of e; length = 0 }
 
 abbrev pub given : (code at : ℕ) → Bool → CharStep
 given code at done = record { refusal = 0; detail = 0; given = 1; code = code; at = at; done = done }

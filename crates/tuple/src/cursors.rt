@@ -74,33 +74,33 @@ pub fn tuple_is_record_end(bytes: &[u8], at: usize, depth: usize) -> Number
     ensures { result ≡ end_number (is_record_end bytes.now (cursor_at at depth)) }
 {
     let c = steps::cursor_at(at, depth);
-    steps::of_end(cursor::is_record_end(bytes, c))
+    Number::from(cursor::is_record_end(bytes, c))
 }
 
 pub fn tuple_put_null(out: &mut [u8], at: usize, depth: usize) -> CursorStep
     ensures { StepWritten at depth (put_null out.old (cursor_at at depth)) result out.new }
 {
     let c = steps::cursor_at(at, depth);
-    steps::of_wrote(cursor::put_null(out, c), at, depth)
+    steps::of_moved(cursor::put_null(out, c), at, depth)
 }
 
 pub fn tuple_put_record(out: &mut [u8], at: usize, depth: usize) -> CursorStep
     ensures { StepWritten at depth (put_record out.old (cursor_at at depth)) result out.new }
 {
     let c = steps::cursor_at(at, depth);
-    steps::of_wrote(cursor::put_record(out, c), at, depth)
+    steps::of_moved(cursor::put_record(out, c), at, depth)
 }
 
 pub fn tuple_put_end(out: &mut [u8], at: usize, depth: usize) -> CursorStep
     ensures { StepWritten at depth (put_end out.old (cursor_at at depth)) result out.new }
 {
     let c = steps::cursor_at(at, depth);
-    steps::of_wrote(cursor::put_end(out, c), at, depth)
+    steps::of_moved(cursor::put_end(out, c), at, depth)
 }
 
 pub fn tuple_put_union(out: &mut [u8], at: usize, depth: usize, disc: u32) -> CursorStep
     ensures { StepWritten at depth (put_union out.old (cursor_at at depth) disc) result out.new }
 {
     let c = steps::cursor_at(at, depth);
-    steps::of_wrote(cursor::put_union(out, c, disc), at, depth)
+    steps::of_moved(cursor::put_union(out, c, disc), at, depth)
 }

@@ -11,7 +11,7 @@ use crate::steps::CharStep;
 pub fn tuple_str_chars(bytes: &[u8]) -> Length
     ensures { result ≡ opened_length (opened bytes.now) }
 {
-    steps::of_opening(chars::open_at(bytes))
+    Length::from(chars::open_at(bytes))
 }
 
 pub fn tuple_chars_next(bytes: &[u8], at: usize, done: bool) -> CharStep

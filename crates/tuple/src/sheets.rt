@@ -3,35 +3,34 @@ ghost use Rattle.format.specs.Calls.{encode_typed_call, encode_key_call, decode_
 ghost use Rattle.format.specs.Zeros.{encode_typed_zeros, encode_key_zeros};
 ghost use Rattle.tuple.specs.Numbers.{Encodes, Fills, Checks};
 
-use crate::answers;
 use crate::answers::{Encoded, Sheet};
 
 pub fn tuple_encode_typed(ty: &[u32], words: &[u64], pool: &[u8], out: &mut [u8]) -> Encoded
     ensures { Encodes encode_typed_call encode_typed_zeros ty.now words.now pool.now out.old result out.new }
 {
-    answers::of_encoded(encode::encode_typed(ty, words, pool, out))
+    Encoded::from(encode::encode_typed(ty, words, pool, out))
 }
 
 pub fn tuple_encode_key(ty: &[u32], words: &[u64], pool: &[u8], out: &mut [u8]) -> Encoded
     ensures { Encodes encode_key_call encode_key_zeros ty.now words.now pool.now out.old result out.new }
 {
-    answers::of_encoded(encode::encode_key(ty, words, pool, out))
+    Encoded::from(encode::encode_key(ty, words, pool, out))
 }
 
 pub fn tuple_decode_typed(ty: &[u32], bytes: &[u8], words: &mut [u64], pool: &mut [u8]) -> Sheet
     ensures { Fills (decode_typed_call ty.now bytes.now words.old pool.old) bytes.now result words.new pool.new }
 {
-    answers::of_decoded(decode::decode_typed(ty, bytes, words, pool))
+    Sheet::from(decode::decode_typed(ty, bytes, words, pool))
 }
 
 pub fn tuple_decode_key(ty: &[u32], bytes: &[u8], words: &mut [u64], pool: &mut [u8]) -> Sheet
     ensures { Fills (decode_key_call ty.now bytes.now words.old pool.old) bytes.now result words.new pool.new }
 {
-    answers::of_decoded(decode::decode_key(ty, bytes, words, pool))
+    Sheet::from(decode::decode_key(ty, bytes, words, pool))
 }
 
 pub fn tuple_check_key(ty: &[u32], bytes: &[u8]) -> Sheet
     ensures { Checks (check_key_call ty.now bytes.now) bytes.now result }
 {
-    answers::of_checked(decode::check_key(ty, bytes))
+    Sheet::from(decode::check_key(ty, bytes))
 }

@@ -1,14 +1,16 @@
 // Steps as numbers. After a refusal place and depth are those given, whatever they are; a value that a step does not give is 0.
 ghost use Rattle.std.specs.Prelude.{◌≡◌};
-ghost use Rattle.format.specs.Answer.{if, refused};
-ghost use Rattle.cursor.specs.Steps.{cursor_of, taken_of, moved_of, part_answer, end_of, wrote_of};
+ghost use Rattle.format.specs.Answer.{refused};
+ghost use Rattle.format.specs.Refusals.{number_of as refusal_number, detail_of, answered};
+ghost use Rattle.scalar.specs.Answers.{place_of};
+ghost use Rattle.cursor.specs.Steps.{cursor_of, taken_of, moved_of, part_answer, wrote_of};
 ghost use Rattle.chars.specs.Reader.{step_of as read_of};
-ghost use Rattle.tuple.specs.StepNumbers.{cursor_at, step_of, moved_step, wrote_step, part_of, end_number, opening_length, reader_step, step_at, key_part, scratch_part, given, broken};
+ghost use Rattle.tuple.specs.StepNumbers.{cursor_at, step_of, moved_step, wrote_step, part_of, place_at, end_number, opening_length, reader_step, step_at, broken};
 
-use crate::answers;
 use crate::answers::{Length, Number};
-use chars::{Opening, Step};
-use cursor::{Cursor, Moved, RecordEnd, Taken, TakenPart};
+use cursor::Cursor;
+use format::Refusal;
+use scalar::Place;
 
 // A value, and the cursor behind it.
 #[repr(C)]
@@ -50,10 +52,7 @@ pub struct CharStep {
 fn narrow(at: usize, depth: usize) -> u32
     ensures { result ≡ (cursor_at at depth).depth }
 {
-    if depth < 256 {
-        return depth as u32;
-    }
-    256
+    depth.min(256) as u32
 }
 
 pub fn cursor_at(at: usize, depth: usize) -> Cursor
@@ -73,56 +72,68 @@ fn to_step(value: u64, c: Cursor) -> CursorStep
         detail: 0,
         value,
         at: c.at as u64,
-        depth: format::wide_word(c.depth),
+        depth: u64::from(c.depth),
     }
 }
 
-fn no_step(no: u32, detail: u64, at: usize, depth: usize) -> CursorStep
-    ensures { result ≡ step_of at depth (refused no detail) }
+fn no_step(e: Refusal, at: usize, depth: usize) -> CursorStep
+    ensures { result ≡ step_of at depth (refused (refusal_number e) (detail_of e)) }
 {
     CursorStep {
-        refusal: no,
-        detail,
+        refusal: e.number(),
+        detail: e.detail(),
         value: 0,
         at: at as u64,
         depth: depth as u64,
     }
 }
 
-fn in_key(part: usize, len: usize, c: Cursor) -> PartStep
-    ensures { result ≡ key_part part len (cursor_of c) }
+// A number taken, or a union opened.
+pub fn of_taken(answer: Result<(u64, Cursor), Refusal>, at: usize, depth: usize) -> CursorStep
+    ensures { result ≡ step_of at depth (taken_of answer) }
 {
+    match answer {
+        Ok((value, c)) => to_step(value, c),
+        Err(e) => no_step(e, at, depth),
+    }
+}
+
+// A step that gives no value, whether it reads or writes.
+pub fn of_moved(answer: Result<Cursor, Refusal>, at: usize, depth: usize) -> CursorStep
+    ensures moved { result ≡ moved_step at depth (moved_of answer) }
+    ensures wrote { result ≡ wrote_step at depth (wrote_of answer) }
+{
+    match answer {
+        Ok(c) => to_step(0, c),
+        Err(e) => no_step(e, at, depth),
+    }
+}
+
+// A payload's place, and the cursor behind its field.
+fn to_part(place: Place, c: Cursor) -> PartStep
+    ensures { result ≡ place_at (place_of place) (cursor_of c) }
+{
+    let (source, part, len) = match place {
+        Place::InKey { at, len } => (1, at, len),
+        Place::InScratch { len } => (2, 0, len),
+    };
     PartStep {
         refusal: 0,
         detail: 0,
-        source: 1,
+        source,
         part: part as u64,
         len: len as u64,
         at: c.at as u64,
-        depth: format::wide_word(c.depth),
+        depth: u64::from(c.depth),
     }
 }
 
-fn in_scratch(len: usize, c: Cursor) -> PartStep
-    ensures { result ≡ scratch_part len (cursor_of c) }
+fn no_part(e: Refusal, at: usize, depth: usize) -> PartStep
+    ensures { result ≡ part_of at depth (refused (refusal_number e) (detail_of e)) }
 {
     PartStep {
-        refusal: 0,
-        detail: 0,
-        source: 2,
-        part: 0,
-        len: len as u64,
-        at: c.at as u64,
-        depth: format::wide_word(c.depth),
-    }
-}
-
-fn no_part(no: u32, detail: u64, at: usize, depth: usize) -> PartStep
-    ensures { result ≡ part_of at depth (refused no detail) }
-{
-    PartStep {
-        refusal: no,
-        detail,
+        refusal: e.number(),
+        detail: e.detail(),
         source: 0,
         part: 0,
         len: 0,
@@ -131,91 +142,55 @@ fn no_part(no: u32, detail: u64, at: usize, depth: usize) -> PartStep
     }
 }
 
-// A number taken, or a union opened.
-pub fn of_taken(answer: Taken, at: usize, depth: usize) -> CursorStep
-    ensures { result ≡ step_of at depth (taken_of answer) }
-{
-    match answer {
-        Taken::Value(value, c) => to_step(value, c),
-        Taken::Refused(no, detail) => no_step(no, detail, at, depth),
-    }
-}
-
-// A step that reads no value.
-pub fn of_moved(answer: Moved, at: usize, depth: usize) -> CursorStep
-    ensures { result ≡ moved_step at depth (moved_of answer) }
-{
-    match answer {
-        Moved::To(c) => to_step(0, c),
-        Moved::Refused(no, detail) => no_step(no, detail, at, depth),
-    }
-}
-
-// A step that writes.
-pub fn of_wrote(answer: Moved, at: usize, depth: usize) -> CursorStep
-    ensures { result ≡ wrote_step at depth (wrote_of answer) }
-{
-    match answer {
-        Moved::To(c) => to_step(0, c),
-        Moved::Refused(no, detail) => no_step(no, detail, at, depth),
-    }
-}
-
 // A payload taken.
-pub fn of_part(answer: TakenPart, at: usize, depth: usize) -> PartStep
+pub fn of_part(answer: Result<(Place, Cursor), Refusal>, at: usize, depth: usize) -> PartStep
     ensures { result ≡ part_of at depth (part_answer answer) }
 {
     match answer {
-        TakenPart::InKey(part, len, c) => in_key(part, len, c),
-        TakenPart::InScratch(len, c) => in_scratch(len, c),
-        TakenPart::Refused(no, detail) => no_part(no, detail, at, depth),
+        Ok((place, c)) => to_part(place, c),
+        Err(e) => no_part(e, at, depth),
     }
-}
-
-fn one_if(b: bool) -> u64
-    ensures { result ≡ if b 1 0 }
-{
-    if b {
-        return 1;
-    }
-    0
 }
 
 // Whether the open group ends.
-pub fn of_end(answer: RecordEnd) -> Number
-    ensures { result ≡ end_number (end_of answer) }
-{
-    match answer {
-        RecordEnd::Is(b) => Number {
-            refusal: 0,
-            detail: 0,
-            value: one_if(b),
-            used: 0,
-        },
-        RecordEnd::Refused(no, detail) => answers::no_number(no, detail),
+impl From<Result<bool, Refusal>> for Number {
+    ghost from_gives = { λ answer numbers. numbers ≡ end_number (answered answer) };
+
+    fn from(answer: Result<bool, Refusal>) -> Number {
+        match answer {
+            Ok(ends) => Number {
+                refusal: 0,
+                detail: 0,
+                value: u64::from(ends),
+                used: 0,
+            },
+            Err(e) => Number {
+                refusal: e.number(),
+                detail: e.detail(),
+                value: 0,
+                used: 0,
+            },
+        }
     }
 }
 
-// Whether a reader opens.
-pub fn of_opening(answer: Opening) -> Length
-    ensures { result ≡ opening_length answer.refusal answer.detail }
-{
-    if answer.refusal == 0 {
-        return answers::to_length(0);
-    }
-    answers::no_length(answer.refusal, answer.detail)
-}
+// Whether a reader opens: at place 0 of its bytes.
+impl From<Result<(), Refusal>> for Length {
+    ghost from_gives = { λ answer numbers. numbers ≡ opening_length answer };
 
-fn to_char(code: u32, at: usize, done: bool) -> CharStep
-    ensures { result ≡ given code at done }
-{
-    CharStep {
-        refusal: 0,
-        detail: 0,
-        given: 1,
-        code,
-        at: at as u64,
-        done,
+    fn from(answer: Result<(), Refusal>) -> Length {
+        match answer {
+            Ok(()) => Length {
+                refusal: 0,
+                detail: 0,
+                length: 0,
+            },
+            Err(e) => Length {
+                refusal: e.number(),
+                detail: e.detail(),
+                length: 0,
+            },
+        }
     }
 }
 
@@ -233,12 +208,19 @@ fn no_char(no: u32, detail: u64, at: usize, done: bool) -> CharStep
 }
 
 // A step of the string reader, and its place and flag after it.
-pub fn of_step(step: Step, at: usize, done: bool) -> CharStep
+pub fn of_step(step: Result<Option<u32>, Refusal>, at: usize, done: bool) -> CharStep
     ensures { result ≡ reader_step (read_of step) at done }
 {
     match step {
-        Step::Char(code) => to_char(code, at, done),
-        Step::End => no_char(0, 0, at, done),
-        Step::Refused(no, detail) => no_char(no, detail, at, done),
+        Ok(Some(code)) => CharStep {
+            refusal: 0,
+            detail: 0,
+            given: 1,
+            code,
+            at: at as u64,
+            done,
+        },
+        Ok(None) => no_char(0, 0, at, done),
+        Err(e) => no_char(e.number(), e.detail(), at, done),
     }
 }

@@ -157,7 +157,7 @@ module _ {words pool : List ℕ} {s : Put} {n depth : ℕ} {l : List ℕ} where
       go (Vals.AddVal v vs) ts e f fit ok i b room = absurd (omega arith)
 
   -- the first, and the rest
-  pub row_more : {first r : Put} {m l' : List ℕ} → 0 < n → WroteValue words pool s depth l first m → Row words pool first (n - 1) depth m r l' → Row words pool s n depth l r l'
+  pub row_more : {first r : Put} {k : ℕ} {m l' : List ℕ} → n ≡ k + 1 → WroteValue words pool s depth l first m → Row words pool first k depth m r l' → Row words pool s n depth l r l'
   unfolding fits val_bytes val_count Proper val_zeros
   row_more {first} {r} {m} {l'} h here rest = record { row = go }
     where
@@ -199,8 +199,8 @@ pub record Walking (words pool : List ℕ) (s₀ : Put) (n₀ depth : ℕ) (l : 
   pub so_far : (r : Put) (m : List ℕ) → Row words pool s n depth l' r m → Row words pool s₀ n₀ depth l r m
 
 module _ {words pool : List ℕ} {s₀ : Put} {n₀ depth : ℕ} {l : List ℕ} where
-  pub walk_start : Ready words pool l s₀ depth → Walking words pool s₀ n₀ depth l s₀ n₀ l
-  walk_start a = record { onward = record { on = omega arith; few = omega arith; word_in = a.word_in; pool_in = a.pool_in; at_in = a.at_in; kept = refl }; so_far = λ r m row. row }
+  pub walk_start : {n : ℕ} → n₀ ≡ n → Ready words pool l s₀ depth → Walking words pool s₀ n₀ depth l s₀ n l
+  walk_start e a = rw (← e) (record { onward = record { on = omega arith; few = omega arith; word_in = a.word_in; pool_in = a.pool_in; at_in = a.at_in; kept = refl }; so_far = λ r m row. row })
 
   module _ {s : Put} {n : ℕ} {l' : List ℕ} (i : Walking words pool s₀ n₀ depth l s n l') where
     -- the walk stands where the next value may
@@ -211,8 +211,8 @@ module _ {words pool : List ℕ} {s₀ : Put} {n₀ depth : ℕ} {l : List ℕ} 
     pub walk_room : {r : Put} {m : List ℕ} → WroteValue words pool (standing s.word s.pool s.at 0) depth l' r m → s₀.pool + (s.zeros + r.zeros) ≤ length pool + s₀.zeros
     walk_room v = omega (arith, i.onward.few, v.onward.few, v.onward.pool_in)
 
-    pub walk_value : {r : Put} {m : List ℕ} → 0 < n → WroteValue words pool (standing s.word s.pool s.at 0) depth l' r m
-        → Walking words pool s₀ n₀ depth l (standing r.word r.pool r.at (s.zeros + r.zeros)) (n - 1) m
+    pub walk_value : {r : Put} {k : ℕ} {m : List ℕ} → n ≡ k + 1 → WroteValue words pool (standing s.word s.pool s.at 0) depth l' r m
+        → Walking words pool s₀ n₀ depth l (standing r.word r.pool r.at (s.zeros + r.zeros)) k m
     walk_value some w =
         let v = added {s = s} w in
         let o = v.onward in

@@ -19,18 +19,6 @@ pub struct Put {
     pub zeros: usize,
 }
 
-// A walk that stands at these places, with so many zeros escaped.
-fn stand(word: usize, pool: usize, at: usize, zeros: usize) -> Put
-    ensures { result ≡ standing word pool at zeros }
-{
-    Put {
-        word,
-        pool,
-        at,
-        zeros,
-    }
-}
-
 // One byte, where there is room.
 fn put_byte(out: &mut [u8], at: usize, b: u8) -> usize
     requires { at ≤ length out.old }
@@ -81,10 +69,7 @@ fn put_ref(out: &mut [u8], at: usize, raw: u64) -> usize
 fn run_fits(payload: &[u8], n: usize) -> bool
     ensures { result ≡ leb (length (escaped payload.now)) n }
 {
-    if payload.len() < n / 2 {
-        return true;
-    }
-    scalar::runs::escaped_len(payload) <= n
+    payload.len() < n / 2 || scalar::runs::escaped_len(payload) <= n
 }
 
 // A mark and the run of a payload, where there is room.
@@ -118,13 +103,11 @@ fn put_tag(out: &mut [u8], at: usize, disc: u32) -> usize
 fn run_of(kind: u64, x: u64) -> usize
     ensures { result ≡ plain_pool kind x }
 {
-    if kind == format::VALUE_INT {
-        return 0;
+    match kind {
+        format::VALUE_INT => 0,
+        format::VALUE_FACT => 0,
+        _ => x as usize,
     }
-    if kind == format::VALUE_FACT {
-        return 0;
-    }
-    x as usize
 }
 
 // A value that is no group, of a kind and with the second word x, by its bytes of the pool.
@@ -132,18 +115,13 @@ fn put_scalar(out: &mut [u8], at: usize, kind: u64, x: u64, payload: &[u8]) -> W
     requires { (at ≤ length out.old) × (length payload.now ≡ plain_pool kind x) }
     ensures { Counted out.old at (plain_bytes kind x payload.now) (zeros payload.now) result out.new }
 {
-    if kind == format::VALUE_INT {
-        let end = put_int(out, at, x);
-        return Written { end, zeros: 0 };
-    }
-    if kind == format::VALUE_FACT {
-        let end = put_ref(out, at, x);
-        return Written { end, zeros: 0 };
-    }
-    if kind == format::VALUE_STR {
-        return put_run(out, at, format::MARK_STRING, payload);
-    }
-    put_run(out, at, format::MARK_BYTES, payload)
+    let end = match kind {
+        format::VALUE_INT => put_int(out, at, x),
+        format::VALUE_FACT => put_ref(out, at, x),
+        format::VALUE_STR => return put_run(out, at, format::MARK_STRING, payload),
+        _ => return put_run(out, at, format::MARK_BYTES, payload),
+    };
+    Written { end, zeros: 0 }
 }
 
 // How many values a group has: a union one.
@@ -181,33 +159,47 @@ pub fn put_value(
     requires { Ready words.now pool.now out.old (standing word from at 0) depth }
     ensures { WroteValue words.now pool.now (standing word from at 0) depth out.old result out.new }
 {
+    let here = Put {
+        word,
+        pool: from,
+        at,
+        zeros: 0,
+    };
     if words.len() <= word {
-        return stand(word, from, at, 0);
+        return here;
     }
     let kind = words[word];
     if kind == format::VALUE_NULL {
-        let end = put_null(out, at, depth);
-        return stand(word + 1, from, end, 0);
+        return Put {
+            word: word + 1,
+            at: put_null(out, at, depth),
+            ..here
+        };
     }
     if words.len() - word < 2 {
-        return stand(word, from, at, 0);
+        return here;
     }
     let x = words[word + 1];
     let next = word + 2;
     if kind < format::VALUE_RECORD {
         let n = run_of(kind, x);
         if pool.len() - from < n {
-            return stand(word, from, at, 0);
+            return here;
         }
         let behind = from + n;
-        let s = put_scalar(out, at, kind, x, &pool[from..behind]);
-        return stand(next, behind, s.end, s.zeros);
+        let written = put_scalar(out, at, kind, x, &pool[from..behind]);
+        return Put {
+            word: next,
+            pool: behind,
+            at: written.end,
+            zeros: written.zeros,
+        };
     }
     let inner = open_group(out, at, kind, x);
     let count = count_of(kind, x);
     let r = put_fields(words, pool, out, next, from, inner, count, depth + 1);
     let end = put_byte(out, r.at, format::MARK_TERM);
-    stand(r.word, r.pool, end, r.zeros)
+    Put { at: end, ..r }
 }
 
 // So many values in a row that stand at a depth: a record's fields, or a union's payload.
@@ -225,18 +217,18 @@ pub fn put_fields(
     requires { Ready words.now pool.now out.old (standing word from start 0) depth }
     ensures { WroteFields words.now pool.now (standing word from start 0) count depth out.old result out.new }
 {
-    let mut w = word;
-    let mut p = from;
-    let mut at = start;
-    let mut zeros: usize = 0;
-    let mut left = count;
-    while 0 < left {
-        let r = put_value(words, pool, out, w, p, at, depth);
-        w = r.word;
-        p = r.pool;
-        at = r.at;
-        zeros += r.zeros;
-        left -= 1;
+    let mut row = Put {
+        word,
+        pool: from,
+        at: start,
+        zeros: 0,
+    };
+    for _done in 0..count {
+        let r = put_value(words, pool, out, row.word, row.pool, row.at, depth);
+        row = Put {
+            zeros: row.zeros + r.zeros,
+            ..r
+        };
     }
-    stand(w, p, at, zeros)
+    row
 }

@@ -1,17 +1,12 @@
--- `open_at` meets its contract: a law of the definition for each way out, the two refused ones through `refused`.
-use Rattle.chars.proofs.StepLaws.{open_eof, open_good, open_mark, as_refused}
+-- `open_at` meets its contract: a law of the definition for each way out.
+use Rattle.chars.proofs.StepLaws.{open_eof, open_good, open_mark}
 use Rattle.chars.proofs.open_at.Goals as goal
 
-pub returns-then-bytes-eq0 : goal.returns-then-bytes-eq0
-returns-then-bytes-eq0 c =
-    let s = c.args.bytes.now in
-    as_refused s 1 0 c.refused.result c.refused.ensures (open_eof s c.if-bytes-eq0.true)
+pub returns-in-None : goal.returns-in-None
+returns-in-None c = open_eof _ c.in-None.ensures.item.3
 
-pub returns-then-mark-eq-MARK_STRING : goal.returns-then-mark-eq-MARK_STRING
-returns-then-mark-eq-MARK_STRING c = open_good c.args.bytes.now c.if-bytes-eq0.false c.if-mark-eq-MARK_STRING.true
+pub returns-in-Some-eq33 : goal.returns-in-Some-eq33
+returns-in-Some-eq33 c = let m = c.in-Some-eq33 in let k = m.ensures.item.3 in open_good _ _ k.0 (k.1 0) m.field-0-test
 
-pub returns : goal.returns
-returns c =
-    let w = c.wide in
-    let s = c.args.bytes.now in
-    as_refused s 2 w.result c.refused-2.result c.refused-2.ensures (open_mark s c.if-bytes-eq0.false c.if-mark-eq-MARK_STRING.false w.result w.ensures)
+pub returns-in-Some : goal.returns-in-Some
+returns-in-Some c = let m = c.in-Some in let k = m.ensures.item.3 in open_mark _ _ k.0 (k.1 0) m.field-0-test.1

@@ -1,34 +1,41 @@
 use native.Mathlib.Omega.{arith}
-use mathlib.Core.Path.{sym, ◌∙◌}
+use mathlib.Core.Path.{◌≡◌, sym, ◌∙◌}
+use Rattle.std.specs.Prelude.{Result, Err}
 use borrow.Author.Rules.{rules}
+use Rattle.std.proofs.lemmas.Result.{err_from_is_err_and}
 use Rattle.fit.proofs.Steps as laws
 use Rattle.fit.proofs.Optional as optional
 use Rattle.fit.proofs.Rows.{start_left, next_stands, all_passed, field_refused, field_passed}
 use Rattle.fit.proofs.+fits.Goals as goal
 
-pub fit_fields-loop-left-init : goal.fit_fields-loop-left-init
-fit_fields-loop-left-init t c = start_left c.requires _ _
+same_error : {A E : Type 0} {x y : E} → ◌≡◌ {A = Result A E} (Err x) (Err y) → x ≡ y
+same_error e = cc
+
+pub fit_fields-loop-passed-init : goal.fit_fields-loop-passed-init
+fit_fields-loop-passed-init t c = start_left c.requires _ _ (omega arith)
 
 pub fit_fields-fit_value-requires : goal.fit_fields-fit_value-requires
 fit_fields-fit_value-requires t c =
-    let l = c.loop-left in
+    let i = c.loop-passed.invariant in
+    (omega (arith, c.decreases, i.brief), next_stands c.requires i (omega arith))
+
+pub fit_fields-returns-in_err-field : goal.fit_fields-returns-in_err-field
+fit_fields-returns-in_err-field t c =
+    let p = err_from_is_err_and c.from_residual.result c.from_residual.ensures.1 in
+    rw (p.1, p.2) (field_refused c.loop-passed.invariant (omega arith) c.in_err-field.ensures)
+
+pub fit_fields-overflow_add-row : goal.fit_fields-overflow_add-row
+fit_fields-overflow_add-row t c =
     let s = c.requires in
-    (omega (arith, c.decreases, l.invariant.brief), next_stands s l.invariant c.loop-left-test.true)
+    omega (arith, c.loop-passed.invariant.brief, c.in_ok-field.ensures.brief, s.few, s.small)
 
-pub fit_fields-returns-in-Refused : goal.fit_fields-returns-in-Refused
-fit_fields-returns-in-Refused t c = field_refused c.loop-left.invariant c.loop-left-test.true c.in-Refused.ensures
-
-pub fit_fields-overflow_add-sum : goal.fit_fields-overflow_add-sum
-fit_fields-overflow_add-sum t c =
-    let r = c.in-Fits.ensures in
-    let s = c.requires in
-    omega (arith, c.loop-left.invariant.brief, r.brief, s.few, s.small)
-
-pub fit_fields-loop-left-preserved : goal.fit_fields-loop-left-preserved
-fit_fields-loop-left-preserved t c = field_passed c.loop-left.invariant c.loop-left-test.true c.asks.ensures.0 c.asks.ensures.1 c.in-Fits.ensures
+pub fit_fields-loop-passed-preserved : goal.fit_fields-loop-passed-preserved
+fit_fields-loop-passed-preserved t c =
+    let a = c.asks-end_asked.ensures in
+    field_passed c.loop-passed.invariant (omega arith) a.0 a.1 (omega arith) c.in_ok-field.ensures
 
 pub fit_fields-returns : goal.fit_fields-returns
-fit_fields-returns t c = all_passed c.loop-left.invariant c.loop-left-test.false
+fit_fields-returns t c = all_passed c.loop-passed.invariant (omega arith)
 
 pub fit_value-plain_place-at-requires : goal.fit_value-plain_place-at-requires
 fit_value-plain_place-at-requires t c = omega (arith, laws.type_in_lem c.requires)
@@ -43,23 +50,23 @@ pub fit_value-bounds-words-w : goal.fit_value-bounds-words-w
 fit_value-bounds-words-w t c = omega (arith, laws.word_in c.requires)
 
 pub fit_value-fit_other-requires : goal.fit_value-fit_other-requires
-fit_value-fit_other-requires t c = (c.requires, λ z. c.if-words-w.true (rw (c.wide_word.ensures, c.plain_place-at.ensures) z))
+fit_value-fit_other-requires t c = (c.requires, λ z. c.if-words-w.true (rw (c.from.ensures, c.plain_place-at.ensures) z))
 
 pub fit_value-returns-then-words-w : goal.fit_value-returns-then-words-w
 fit_value-returns-then-words-w t c = c.fit_other.ensures
 
 pub fit_value-bounds-words-w-2 : goal.fit_value-bounds-words-w-2
-fit_value-bounds-words-w-2 t c = let m = optional.matched c.requires c.plain_place-at.ensures (c.if-words-w.false ∙ c.wide_word.ensures) in omega (arith, laws.word_second m.stands m.same)
+fit_value-bounds-words-w-2 t c = let m = optional.matched c.requires c.plain_place-at.ensures (c.if-words-w.false ∙ c.from.ensures) in omega (arith, laws.word_second m.stands m.same)
 
 pub fit_value-fit_leaf-requires : goal.fit_value-fit_leaf-requires
 fit_value-fit_leaf-requires t c =
-    let m = optional.matched c.requires c.plain_place-at.ensures (c.if-words-w.false ∙ c.wide_word.ensures) in
+    let m = optional.matched c.requires c.plain_place-at.ensures (c.if-words-w.false ∙ c.from.ensures) in
     let s = m.stands in
     (omega (arith, laws.type_in_lem s), omega (arith, laws.word_second s m.same), laws.leaf_room s m.same c.if-kind-lt-KIND_FACT.true, s.small, λ z. omega (arith, c.if-kind-lt-KIND_FACT.true))
 
 pub fit_value-returns-then-kind-lt-KIND_FACT : goal.fit_value-returns-then-kind-lt-KIND_FACT
 fit_value-returns-then-kind-lt-KIND_FACT t c =
-    let m = optional.matched c.requires c.plain_place-at.ensures (c.if-words-w.false ∙ c.wide_word.ensures) in
+    let m = optional.matched c.requires c.plain_place-at.ensures (c.if-words-w.false ∙ c.from.ensures) in
     rw c.fit_leaf.ensures (m.back (laws.leaf m.same m.stands c.if-kind-lt-KIND_FACT.true))
 
 pub fit_value-overflow_add-n : goal.fit_value-overflow_add-n
@@ -69,69 +76,79 @@ pub fit_value-offset_bounds-ty-at-2 : goal.fit_value-offset_bounds-ty-at-2
 fit_value-offset_bounds-ty-at-2 t c = search (rules, optional.place_in c.requires c.plain_place-at.ensures)
 
 pub fit_value-bounds-ty-at-2 : goal.fit_value-bounds-ty-at-2
-fit_value-bounds-ty-at-2 t c = let m = optional.matched c.requires c.plain_place-at.ensures (c.if-words-w.false ∙ c.wide_word.ensures) in omega (arith, laws.type_second m.stands c.if-kind-lt-KIND_FACT.false m.plain)
+fit_value-bounds-ty-at-2 t c = let m = optional.matched c.requires c.plain_place-at.ensures (c.if-words-w.false ∙ c.from.ensures) in omega (arith, laws.type_second m.stands c.if-kind-lt-KIND_FACT.false m.plain)
 
 pub fit_value-fit_ref-requires : goal.fit_value-fit_ref-requires
 fit_value-fit_ref-requires t c =
-    let m = optional.matched c.requires c.plain_place-at.ensures (c.if-words-w.false ∙ c.wide_word.ensures) in
+    let m = optional.matched c.requires c.plain_place-at.ensures (c.if-words-w.false ∙ c.from.ensures) in
     (omega (arith, laws.type_second m.stands c.if-kind-lt-KIND_FACT.false m.plain), omega (arith, laws.word_second m.stands m.same))
 
 pub fit_value-returns-then-kind-eq-KIND_FACT : goal.fit_value-returns-then-kind-eq-KIND_FACT
 fit_value-returns-then-kind-eq-KIND_FACT t c =
-    let m = optional.matched c.requires c.plain_place-at.ensures (c.if-words-w.false ∙ c.wide_word.ensures) in
-    rw c.fit_ref.ensures (m.back (laws.reference m.same m.stands c.if-kind-eq-KIND_FACT.true))
+    let m = optional.matched c.requires c.plain_place-at.ensures (c.if-words-w.false ∙ c.from.ensures) in
+    m.back (laws.reference m.same m.stands c.if-kind-eq-KIND_FACT.true c.fit_ref.ensures)
 
-pub fit_value-returns-then-x-wide_word : goal.fit_value-returns-then-x-wide_word
-fit_value-returns-then-x-wide_word t c =
-    let m = optional.matched c.requires c.plain_place-at.ensures (c.if-words-w.false ∙ c.wide_word.ensures) in
-    m.back (laws.miscount m.same c.if-kind-eq-KIND_RECORD.true (λ z. c.if-x-wide_word.true (z ∙ sym c.wide_word-then-kind-eq-KIND_RECORD.ensures)))
+pub fit_value-returns-then-x-from : goal.fit_value-returns-then-x-from
+fit_value-returns-then-x-from t c =
+    let m = optional.matched c.requires c.plain_place-at.ensures (c.if-words-w.false ∙ c.from.ensures) in
+    m.back (laws.miscount m.same c.if-kind-eq-KIND_RECORD.true (λ z. c.if-x-from.true (z ∙ sym c.from-then-kind-eq-KIND_RECORD.ensures)))
 
 pub fit_value-returns-then-depth-ge-MAX_RECORD_DEPTH : goal.fit_value-returns-then-depth-ge-MAX_RECORD_DEPTH
 fit_value-returns-then-depth-ge-MAX_RECORD_DEPTH t c =
-    let m = optional.matched c.requires c.plain_place-at.ensures (c.if-words-w.false ∙ c.wide_word.ensures) in
-    m.back (laws.too_deep m.same c.if-kind-eq-KIND_RECORD.true (c.if-x-wide_word.false ∙ c.wide_word-then-kind-eq-KIND_RECORD.ensures) c.if-depth-ge-MAX_RECORD_DEPTH.true)
+    let m = optional.matched c.requires c.plain_place-at.ensures (c.if-words-w.false ∙ c.from.ensures) in
+    m.back (laws.too_deep m.same c.if-kind-eq-KIND_RECORD.true (c.if-x-from.false ∙ c.from-then-kind-eq-KIND_RECORD.ensures) c.if-depth-ge-MAX_RECORD_DEPTH.true)
 
 pub fit_value-overflow_add-at : goal.fit_value-overflow_add-at
 fit_value-overflow_add-at t c = search (rules, optional.place_in c.requires c.plain_place-at.ensures)
 
 pub fit_value-fit_fields-requires : goal.fit_value-fit_fields-requires
 fit_value-fit_fields-requires t c =
-    let m = optional.matched c.requires c.plain_place-at.ensures (c.if-words-w.false ∙ c.wide_word.ensures) in
+    let m = optional.matched c.requires c.plain_place-at.ensures (c.if-words-w.false ∙ c.from.ensures) in
     let s = m.stands in
-    let count = c.if-x-wide_word.false ∙ c.wide_word-then-kind-eq-KIND_RECORD.ensures in
+    let count = c.if-x-from.false ∙ c.from-then-kind-eq-KIND_RECORD.ensures in
     (omega (arith, c.decreases, laws.word_second s m.same), laws.fields_stand s m.same c.if-kind-eq-KIND_RECORD.true count)
 
-pub fit_value-in_record-requires : goal.fit_value-in_record-requires
-fit_value-in_record-requires t c = laws.fields_short c.requires c.fit_fields.ensures
+pub fit_value-overflow_add-result : goal.fit_value-overflow_add-result
+fit_value-overflow_add-result t c = let n = laws.fields_short c.requires c.in_ok-row.ensures in omega arith
+
+pub fit_value-returns-in_err-row : goal.fit_value-returns-in_err-row
+fit_value-returns-in_err-row t c =
+    let m = optional.matched c.requires c.plain_place-at.ensures (c.if-words-w.false ∙ c.from.ensures) in
+    let count = c.if-x-from.false ∙ c.from-then-kind-eq-KIND_RECORD.ensures in
+    let p = err_from_is_err_and c.from_residual.result c.from_residual.ensures.1 in
+    rw (p.1, p.2) (m.back (laws.in_record m.same c.if-kind-eq-KIND_RECORD.true count c.if-depth-ge-MAX_RECORD_DEPTH.false c.in_err-row.ensures))
 
 pub fit_value-returns-then-kind-eq-KIND_RECORD : goal.fit_value-returns-then-kind-eq-KIND_RECORD
 fit_value-returns-then-kind-eq-KIND_RECORD t c =
-    let m = optional.matched c.requires c.plain_place-at.ensures (c.if-words-w.false ∙ c.wide_word.ensures) in
-    let count = c.if-x-wide_word.false ∙ c.wide_word-then-kind-eq-KIND_RECORD.ensures in
-    rw c.in_record.ensures (m.back (laws.in_record m.same c.if-kind-eq-KIND_RECORD.true count c.if-depth-ge-MAX_RECORD_DEPTH.false c.fit_fields.ensures))
+    let m = optional.matched c.requires c.plain_place-at.ensures (c.if-words-w.false ∙ c.from.ensures) in
+    let count = c.if-x-from.false ∙ c.from-then-kind-eq-KIND_RECORD.ensures in
+    m.back (laws.in_record m.same c.if-kind-eq-KIND_RECORD.true count c.if-depth-ge-MAX_RECORD_DEPTH.false c.in_ok-row.ensures)
 
-pub fit_value-returns-then-place-eq0 : goal.fit_value-returns-then-place-eq0
-fit_value-returns-then-place-eq0 t c =
-    let m = optional.matched c.requires c.plain_place-at.ensures (c.if-words-w.false ∙ c.wide_word.ensures) in
-    m.back (laws.no_alternative m.same (omega (arith, m.plain)) c.alternative-choice.ensures.picks c.if-place-eq0.true)
+pub fit_value-returns-in_err-place : goal.fit_value-returns-in_err-place
+fit_value-returns-in_err-place t c =
+    let m = optional.matched c.requires c.plain_place-at.ensures (c.if-words-w.false ∙ c.from.ensures) in
+    let none = c.in_err-place.ensures.ok_part in
+    let is = same_error (rw none at c.in_err-place.ensures.value) in
+    let p = err_from_is_err_and c.from_residual-in_err-place.result c.from_residual-in_err-place.ensures.1 in
+    rw (p.1, p.2, is) (m.back (laws.no_alternative m.same (omega (arith, m.plain)) c.alternative-choice.ensures.picks none))
 
 pub fit_value-returns-then-depth-ge-MAX_RECORD_DEPTH-2 : goal.fit_value-returns-then-depth-ge-MAX_RECORD_DEPTH-2
 fit_value-returns-then-depth-ge-MAX_RECORD_DEPTH-2 t c =
-    let m = optional.matched c.requires c.plain_place-at.ensures (c.if-words-w.false ∙ c.wide_word.ensures) in
-    m.back (laws.deep_union m.same (omega (arith, m.plain)) c.alternative-choice.ensures.picks c.if-place-eq0.false c.if-depth-ge-MAX_RECORD_DEPTH-2.true)
+    let m = optional.matched c.requires c.plain_place-at.ensures (c.if-words-w.false ∙ c.from.ensures) in
+    m.back (laws.deep_union m.same (omega (arith, m.plain)) c.alternative-choice.ensures.picks c.in_ok-place.ensures.ok_part c.if-depth-ge-MAX_RECORD_DEPTH-2.true)
 
-pub fit_value-fit_value-r-requires : goal.fit_value-fit_value-r-requires
-fit_value-fit_value-r-requires t c =
-    let m = optional.matched c.requires c.plain_place-at.ensures (c.if-words-w.false ∙ c.wide_word.ensures) in
+pub fit_value-fit_value-payload-requires : goal.fit_value-fit_value-payload-requires
+fit_value-fit_value-payload-requires t c =
+    let m = optional.matched c.requires c.plain_place-at.ensures (c.if-words-w.false ∙ c.from.ensures) in
     let s = m.stands in
     let found = c.alternative-choice.ensures.picks in
-    (omega (arith, c.decreases, laws.word_second s m.same), laws.payload_stands m.same (omega (arith, m.plain)) found s c.if-place-eq0.false)
+    (omega (arith, c.decreases, laws.word_second s m.same), laws.payload_stands m.same (omega (arith, m.plain)) found s c.in_ok-place.ensures.ok_part)
 
 pub fit_value-in_union-requires : goal.fit_value-in_union-requires
-fit_value-in_union-requires t c = laws.value_short c.requires c.fit_value-r.ensures
+fit_value-in_union-requires t c = laws.value_short c.requires c.fit_value-payload.ensures
 
 pub fit_value-returns : goal.fit_value-returns
 fit_value-returns t c =
-    let m = optional.matched c.requires c.plain_place-at.ensures (c.if-words-w.false ∙ c.wide_word.ensures) in
+    let m = optional.matched c.requires c.plain_place-at.ensures (c.if-words-w.false ∙ c.from.ensures) in
     let found = c.alternative-choice.ensures.picks in
-    m.back (laws.in_union_lem m.same (omega (arith, m.plain)) found c.if-place-eq0.false c.if-depth-ge-MAX_RECORD_DEPTH-2.false c.fit_value-r.ensures c.in_union.ensures)
+    m.back (laws.in_union_lem m.same (omega (arith, m.plain)) found c.in_ok-place.ensures.ok_part c.if-depth-ge-MAX_RECORD_DEPTH-2.false c.fit_value-payload.ensures c.in_union.ensures)

@@ -13,7 +13,7 @@ bounds-ty-t-then-ty-t-ne-KIND_OPTIONAL c = omega (arith, laws.type_in_lem c.requ
 pub returns-then-ty-t-ne-KIND_OPTIONAL : goal.returns-then-ty-t-ne-KIND_OPTIONAL
 returns-then-ty-t-ne-KIND_OPTIONAL c =
     let h = c.requires in
-    rw c.wide_word.ensures (optional.differ_here h.0 h.1 (λ z. omega (arith, c.if-ty-t-ne-KIND_OPTIONAL.true)))
+    optional.differ_here h.0 h.1 (λ z. omega (arith, c.if-ty-t-ne-KIND_OPTIONAL.true))
 
 pub bounds-words-w : goal.bounds-words-w
 bounds-words-w c = omega (arith, laws.word_in c.requires.0)
@@ -27,4 +27,4 @@ bounds-ty-t-2 c = omega (arith, laws.type_in_lem (optional.behind_stands c.requi
 pub returns : goal.returns
 returns c =
     let h = c.requires in
-    rw c.wide_word-2.ensures (optional.differ_behind h.0 h.1 c.if-ty-t-ne-KIND_OPTIONAL.false c.if-words-w-eq-VALUE_NULL.false)
+    (optional.differ_behind h.0 h.1 c.if-ty-t-ne-KIND_OPTIONAL.false c.if-words-w-eq-VALUE_NULL.false)

@@ -1,37 +1,32 @@
+-- Blocks that are the same, one after another, and the byte behind them.
 use mathlib.Core.Path.{◌≡◌}
+use Prim.Native.Nat.{ℕ, ◌+◌}
 use native.Mathlib.Omega.{arith}
 use lib.ListN.{get_or}
-use Rattle.blocks.proofs.Spans.{span_one, span_join}
+use Rattle.std.proofs.Common.{rules}
+use Rattle.blocks.specs.Compare.{Same}
+use Rattle.blocks.proofs.Scans.{span_steps}
+use Rattle.blocks.proofs.Spans.{span_join, span_one}
 use Rattle.blocks.proofs.comparing.differ_at.Goals as goal
 
-pub loop-i-init : goal.loop-i-init
-loop-i-init c = (
-  omega arith,
-  omega arith,
-  span_join (λ k. get_or c.args.a.now k 0 ≡ get_or c.args.b.now k 0) 0 c.past_same-narrow.result c.past_same-i.result
-      (span_join (λ k. get_or c.args.a.now k 0 ≡ get_or c.args.b.now k 0) 0 c.past_same-wide.result c.past_same-narrow.result c.past_same-wide.ensures.3 c.past_same-narrow.ensures.3) c.past_same-i.ensures.3,
-)
-
-pub returns-then-b-i : goal.returns-then-b-i
-returns-then-b-i c = record { in_a = c.loop-i.invariant.0; in_b = c.loop-i.invariant.1; same = c.loop-i.invariant.2; differ = λ h g. absurd (omega arith) }
-
-pub bounds-a-i : goal.bounds-a-i
-bounds-a-i c = omega arith
-
-pub bounds-b-i : goal.bounds-b-i
-bounds-b-i c = omega arith
-
-pub returns-then-a-i : goal.returns-then-a-i
-returns-then-a-i c = record { in_a = c.loop-i.invariant.0; in_b = c.loop-i.invariant.1; same = c.loop-i.invariant.2; differ = λ h g. c.if-a-i.true }
-
-pub overflow_add-i : goal.overflow_add-i
-overflow_add-i c = omega arith
-
-pub loop-i-smaller : goal.loop-i-smaller
-loop-i-smaller c = omega arith
-
-pub loop-i-preserved : goal.loop-i-preserved
-loop-i-preserved c = (omega arith, omega arith, span_one (λ k. get_or c.args.a.now k 0 ≡ get_or c.args.b.now k 0) 0 c.loop-i.i c.loop-i.invariant.2 c.if-a-i.false)
-
 pub returns : goal.returns
-returns c = record { in_a = c.loop-i.invariant.0; in_b = c.loop-i.invariant.1; same = c.loop-i.invariant.2; differ = λ h g. absurd (omega arith) }
+returns c =
+    let a = c.args.a.now in
+    let b = c.args.b.now in
+    let P = λ (k : ℕ). get_or a k 0 ≡ get_or b k 0 in
+    let m = c.min-end.ensures in
+    let e = c.past_blocks-wide.ensures in
+    let f = c.past_blocks-narrow.ensures in
+    let g = c.past_blocks-word.ensures in
+    let h = c.past_blocks.ensures in
+    let p = span_steps P (λ m l t. let u : Same a b m (m + 64) = search rules in u) e.steps in
+    let q = span_steps P (λ m l t. let u : Same a b m (m + 16) = search rules in u) f.steps in
+    let r = span_steps P (λ m l t. let u : Same a b m (m + 4) = search rules in u) g.steps in
+    let s = span_steps P (λ m l t. let u : get_or a m 0 ≡ get_or b m 0 = search rules in span_one P m m (λ k x y. absurd (omega arith)) u) h.steps in
+    record {
+      in_a = omega (arith, h.inside, m);
+      in_b = omega (arith, h.inside, m);
+      same = span_join P 0 c.past_blocks-word.result c.past_blocks.result
+          (span_join P 0 c.past_blocks-narrow.result c.past_blocks-word.result (span_join P 0 c.past_blocks-wide.result c.past_blocks-narrow.result p q) r) s;
+      differ = λ x y z. let t = h.stop (omega (arith, m)) in let u : get_or a c.past_blocks.result 0 ≡ get_or b c.past_blocks.result 0 → ⊥ = search rules in u z;
+    }

@@ -1,56 +1,28 @@
+-- The joint answer is true only where each is.
 use mathlib.Core.Path.{◌≡◌, sym, ◌∙◌}
-use mathlib.Core.Bool.{Bool, true, false}
-use Prim.Native.Nat.{ℕ}
+use mathlib.Core.Bool.{Bool, true, ◌&&◌}
+use Prim.Native.Nat.{ℕ, ◌-◌, ◌+◌}
 use native.Mathlib.Omega.{arith}
-use lib.ListN.{get_or}
-use Rattle.blocks.proofs.Spans.{span_none, span_more}
+use lib.ListN.{length, take, drop, length-take, length-drop}
+use Rattle.std.proofs.Common.{rules, ◌==◌}
+use Rattle.std.proofs.lemmas.Iterator.{YieldsList-from_slice, YieldsList-from_zip}
+use Rattle.std.proofs.lemmas.Iterator.Consumers.{fold_from_yields_List}
+use Rattle.blocks.proofs.Folds.{each_alike}
+use Rattle.blocks.proofs.Spans.{part_at}
 use Rattle.blocks.proofs.comparing.same.Goals as goal
-use Rattle.blocks.proofs.comparing.same.Goals.{then-a-i-2, else-a-i-2}
-
-pub overflow_sub-a : goal.overflow_sub-a
-overflow_sub-a c = omega arith
-
-pub returns-then-a-i : goal.returns-then-a-i
-returns-then-a-i c = λ p. let z : ◌≡◌ {A = ℕ} 0 1 = cc in absurd (omega arith)
-
-pub overflow_sub-b : goal.overflow_sub-b
-overflow_sub-b c = omega arith
-
-pub returns-then-b-i : goal.returns-then-b-i
-returns-then-b-i c = λ p. let z : ◌≡◌ {A = ℕ} 0 1 = cc in absurd (omega arith)
-
-pub loop-j-init : goal.loop-j-init
-loop-j-init c = (omega arith, omega arith, omega arith, λ p. span_none _ _)
-
-pub overflow_add-i : goal.overflow_add-i
-overflow_add-i c = omega arith
-
-pub bounds-a-i : goal.bounds-a-i
-bounds-a-i c = omega arith
-
-pub overflow_add-i-in-loop-j : goal.overflow_add-i-in-loop-j
-overflow_add-i-in-loop-j c = omega arith
-
-pub bounds-b-i : goal.bounds-b-i
-bounds-b-i c = omega arith
-
-pub overflow_add-j : goal.overflow_add-j
-overflow_add-j c = omega arith
-
-pub loop-j-smaller : goal.loop-j-smaller
-loop-j-smaller c = omega arith
-
-pub loop-j-preserved : goal.loop-j-preserved
-loop-j-preserved c =
-    let a = c.args in (
-      omega arith,
-      omega arith,
-      omega arith,
-      λ p. elim c.if-a-i-2.branch [
-        | then-a-i-2 w ↦ let q : ◌≡◌ {A = Bool} false true = sym w.all-is ∙ p in cc
-        | else-a-i-2 w ↦ span_more (λ k. get_or a.a.now k 0 ≡ get_or a.b.now k 0) a.i c.loop-j.j (c.loop-j.invariant.3 (sym w.all-is ∙ p)) w.if-a-i-2.false
-      ],
-    )
 
 pub returns : goal.returns
-returns c = λ p. let e : c.args.k ≡ c.loop-j.j = omega arith in (omega arith, omega arith, rw e (c.loop-j.invariant.3 p))
+returns c =
+    let a = c.args in
+    let s = take (a.i + a.k - a.i) (drop a.i a.a.now) in
+    let t = take (a.i + a.k - a.i) (drop a.i a.b.now) in
+    let e = fold_from_yields_List _ (λ (all : Bool) (p : ℕ × ℕ). all && (p.0 == p.1)) true c.fold.result c.fold.ensures.ran
+    (YieldsList-from_zip (YieldsList-from_slice s (cc)) (YieldsList-from_slice t (cc))) (λ a x b q k. search rules) in
+    let m : length s ≡ a.k = simp (length-take, length-drop) (omega arith) in
+    let n : length t ≡ a.k = simp (length-take, length-drop) (omega arith) in
+    λ p j x y.
+    let q = each_alike s t (omega arith) (sym e ∙ p) (j - a.i) (omega arith) in
+    let g = part_at a.a.now a.i (a.i + a.k) (j - a.i) (omega arith) in
+    let h = part_at a.b.now a.i (a.i + a.k) (j - a.i) (omega arith) in
+    let w : a.i + (j - a.i) ≡ j = omega arith in
+    rw w at (sym g ∙ q ∙ h)

@@ -7,8 +7,8 @@ use Rattle.format.specs.Fields.{put}
 use Rattle.blocks.specs.Zeros.{NoZero}
 use Rattle.blocks.proofs.copying.copy_clear.Given as goal
 
-abbrev pub invariant-loop-dst : goal.invariant-loop-dst
-invariant-loop-dst l = (l.i ≤ length l.src) × NoZero l.src 0 l.i × (length l.dst ≡ length l.initial.dst) × (l.dst ≡ put l.initial.dst l.o (slice 0 l.i l.src))
+abbrev pub invariant-loop-i : goal.invariant-loop-i
+invariant-loop-i l = (l.i ≤ length l.src) × NoZero l.src 0 l.i × (length l.dst ≡ length l.initial.dst) × (l.dst ≡ put l.initial.dst l.o (slice 0 l.i l.src))
 
-abbrev pub decreases-loop-dst : goal.decreases-loop-dst
-decreases-loop-dst l = length l.src - l.i
+abbrev pub decreases-loop-i : goal.decreases-loop-i
+decreases-loop-i l = length l.src - l.i

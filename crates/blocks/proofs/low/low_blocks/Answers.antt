@@ -1,22 +1,19 @@
-use Prim.Native.Nat.{◌+◌, ◌<◌}
-use native.Mathlib.Omega.{arith}
-use lib.ListN.{get_or}
-use Rattle.blocks.proofs.Spans.{span_join}
+-- Each block that was passed is low, and so all of them are.
+use Prim.Native.Nat.{◌+◌, ◌-◌, ◌<◌}
+use lib.ListN.{length, get_or, take, drop}
+use Rattle.std.proofs.Common.{rules}
+use Rattle.blocks.specs.Ascii.{Low}
+use Rattle.blocks.proofs.Scans.{span_steps}
+use Rattle.blocks.proofs.Spans.{span_part}
 use Rattle.blocks.proofs.low.low_blocks.Goals as goal
 
-pub loop-i-init : goal.loop-i-init
-loop-i-init c = (omega arith, omega arith, λ k a b. absurd (omega arith))
-
-pub overflow_add-i : goal.overflow_add-i
-overflow_add-i c = let e = c.ascii.ensures c.loop-i-test.true in omega arith
-
-pub loop-i-smaller : goal.loop-i-smaller
-loop-i-smaller c = let e = c.ascii.ensures c.loop-i-test.true in omega arith
-
-pub loop-i-preserved : goal.loop-i-preserved
-loop-i-preserved c =
-    let e = c.ascii.ensures c.loop-i-test.true in
-    (omega arith, omega arith, span_join (λ k. get_or c.args.s.now k 0 < 0x80) c.args.from c.loop-i.i (c.loop-i.i + c.args.k) c.loop-i.invariant.2 e.1)
-
 pub returns : goal.returns
-returns c = c.loop-i.invariant
+returns c =
+    let e = c.past_blocks.ensures in
+    let s = c.args.s.now in
+    let n = c.args.k in (
+      e.after,
+      e.inside,
+      span_steps (λ k. get_or s k 0 < 128)
+          (λ m h t. let u : Low (take (m + n - m) (drop m s)) 0 (length (take (m + n - m) (drop m s))) = search rules in span_part (λ b. b < 128) s m (m + n) h u) e.steps,
+    )

@@ -1,12 +1,10 @@
--- Invariant: the zeros counted and those that are left are all of them. What is left falls by a part of at most 240 bytes.
-use mathlib.Core.Path.{◌≡◌}
-use Prim.Native.Nat.{◌+◌, ◌-◌, ◌≤◌}
-use lib.ListN.{length, drop}
+-- Invariant: the zeros counted and those of the rest are all. The rest falls.
+use Rattle.std.proofs.Common.{◌≡◌, ◌+◌, length}
 use Rattle.format.specs.Zeros.{zeros}
 use Rattle.blocks.proofs.zeros.count_zeros.Given as goal
 
-abbrev pub invariant-loop-i : goal.invariant-loop-i
-invariant-loop-i l = (l.i ≤ length l.s) × (l.n + zeros (drop l.i l.s) ≡ zeros l.s)
+abbrev pub invariant-loop-part : goal.invariant-loop-part
+invariant-loop-part l = l.n + zeros l.rest ≡ zeros l.s
 
-abbrev pub decreases-loop-i : goal.decreases-loop-i
-decreases-loop-i l = length l.s - l.i
+abbrev pub decreases-loop-part : goal.decreases-loop-part
+decreases-loop-part l = length l.rest

@@ -1,4 +1,4 @@
--- The bytes are read at the front of the rest: their place there is one in the key, and scratch is the same.
+-- The bytes are read at the front of the rest: the place there is one in the key, and scratch is the same.
 use Rattle.cursor.proofs.ReadSteps as laws
 use Rattle.cursor.proofs.reading.take_bytes.Goals as goal
 

@@ -2,8 +2,5 @@
 use Rattle.cursor.proofs.ReadSteps as laws
 use Rattle.cursor.proofs.reading.take_null.Goals as goal
 
-pub moved-requires : goal.moved-requires
-moved-requires c = search laws.step_room
-
 pub returns : goal.returns
 returns c = search laws.null_taken

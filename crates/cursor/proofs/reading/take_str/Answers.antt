@@ -1,4 +1,4 @@
--- The text is read at the front of the rest: its place there is one in the key, and scratch is the same.
+-- The text is read at the front of the rest: the place there is one in the key, and scratch is the same.
 use Rattle.cursor.proofs.ReadSteps as laws
 use Rattle.cursor.proofs.reading.take_str.Goals as goal
 

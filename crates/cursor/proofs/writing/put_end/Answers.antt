@@ -1,13 +1,10 @@
--- Outside every group nothing ends; in one the depth is over 0, and 00 is put.
+-- Outside every group nothing ends; in one 00 is put.
 use Rattle.cursor.proofs.WriteSteps as laws
-use Rattle.cursor.proofs.ReadSteps.{deep_some}
+use Rattle.std.proofs.lemmas.Result.{err_from_is_err_and}
 use Rattle.cursor.proofs.writing.put_end.Goals as goal
 
-pub returns-then-c-eq0 : goal.returns-then-c-eq0
-returns-then-c-eq0 c = search laws.end_none_left
-
-pub overflow_sub-depth_of : goal.overflow_sub-depth_of
-overflow_sub-depth_of c = search deep_some
+pub returns-in_err-depth : goal.returns-in_err-depth
+returns-in_err-depth c = let p = err_from_is_err_and c.from_residual.result c.from_residual.ensures.1 in rw (p.1, p.2) (laws.end_none _ _ _ c.in_err-depth.ensures)
 
 pub returns : goal.returns
-returns c = search laws.end_left
+returns c = laws.end_left _ _ _ _ _ _ c.wrote.ensures c.in_ok-depth.ensures c.put_plain.ensures

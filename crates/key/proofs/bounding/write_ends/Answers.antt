@@ -1,17 +1,15 @@
 -- Room for the lower end is asked first; above_field answers for the upper one and leaves it alone where it refuses, and then the lower one is copied.
-use mathlib.Core.Path.{sym}
-use lib.Seq.{length-take-le}
+use Rattle.std.proofs.lemmas.Result.{err_from_is_err_and}
 use Rattle.key.proofs.EndLaws as laws
 use Rattle.key.proofs.bounding.write_ends.Goals as goal
 
-pub returns-then-lower-n : goal.returns-then-lower-n
-returns-then-lower-n c = search laws.low_room
+pub returns-in_err-end : goal.returns-in_err-end
+returns-in_err-end c =
+    let a = c.args in
+    let p = err_from_is_err_and c.from_residual.result c.from_residual.ensures.1 in
+    rw (p.1, p.2) (laws.high_room a.key.now a.lower.now a.upper.now a.n c.requires c.if-lower-n.false c.in_err-end.ensures)
 
-pub slice_bounds-above_field-end : goal.slice_bounds-above_field-end
-slice_bounds-above_field-end c = sym (length-take-le c.args.n c.args.key.now c.requires)
-
-pub returns-in-Refused : goal.returns-in-Refused
-returns-in-Refused c = search laws.high_room
-
-pub returns-in-Done : goal.returns-in-Done
-returns-in-Done c = search laws.ends_done
+pub returns : goal.returns
+returns c =
+    let a = c.args in
+    laws.ends_done a.key.now a.lower.now a.upper.now a.n c.requires c.if-lower-n.false c.in_ok-end.ensures c.copy_front.ensures

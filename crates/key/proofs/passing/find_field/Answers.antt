@@ -1,33 +1,38 @@
 -- The key's fields are its first k, the field and those behind it, each passed where the one before ends; all decode where the key does.
 use native.Mathlib.Omega.{arith}
+use Rattle.std.proofs.lemmas.Result.{err_from_is_err_and}
 use Rattle.key.proofs.SpanLaws as laws
 use Rattle.key.proofs.passing.find_field.Goals as goal
 
-pub pass_fields-requires : goal.pass_fields-requires
-pass_fields-requires c = record { typed = laws.first_fields {n = c.args.n} (omega (arith, c.requires.inside)) c.requires.typed; inside = omega arith }
+pub pass_fields-requires-clause-typed : goal.pass_fields-requires-clause-typed
+pass_fields-requires-clause-typed c = laws.first_fields {n = c.args.n} (omega (arith, c.requires.inside)) c.requires.typed
 
-pub pass_value-requires : goal.pass_value-requires
-pass_value-requires c =
-    let first = c.pass_fields.ensures in
-    let to = c.in-To.is in
-    record { typed = laws.field_type_lem c.requires.inside first to c.requires.typed; inside = laws.start_of c.requires.inside first to c.requires.typed }
+pub returns-in_err-first : goal.returns-in_err-first
+returns-in_err-first c =
+    let p = err_from_is_err_and c.from_residual.result c.from_residual.ensures.1 in
+    rw (p.1, p.2) (laws.find_bad c.requires.inside c.in_err-first.ensures)
 
-pub pass_rest-requires : goal.pass_rest-requires
-pass_rest-requires c =
-    let first = c.pass_fields.ensures in
-    let to = c.in-To.is in
-    let value = c.pass_value.ensures in
-    let on = c.in-To-pass_value.is in
-    record { typed = laws.behind_fields c.requires.inside first to value on c.requires.typed; inside = laws.field_end_in c.requires.inside first to value on c.requires.typed }
+pub pass_value-requires-clause-typed : goal.pass_value-requires-clause-typed
+pass_value-requires-clause-typed c = laws.field_type_lem c.requires.inside c.in_ok-first.ensures c.requires.typed
 
-pub returns-in-Refused : goal.returns-in-Refused
-returns-in-Refused c = search laws.find_bad
+pub pass_value-requires-clause-inside : goal.pass_value-requires-clause-inside
+pass_value-requires-clause-inside c = laws.start_of c.requires.inside c.in_ok-first.ensures c.requires.typed
 
-pub returns-in-Refused-pass_value : goal.returns-in-Refused-pass_value
-returns-in-Refused-pass_value c = search laws.find_field_bad
+pub returns-in_err-own : goal.returns-in_err-own
+returns-in_err-own c =
+    let p = err_from_is_err_and c.from_residual-in_err-own.result c.from_residual-in_err-own.ensures.1 in
+    rw (p.1, p.2) (laws.find_field_bad c.requires.inside c.in_ok-first.ensures c.in_err-own.ensures)
 
-pub returns-in-Refused-pass_rest : goal.returns-in-Refused-pass_rest
-returns-in-Refused-pass_rest c = search laws.find_rest_bad
+pub pass_rest-requires-clause-typed : goal.pass_rest-requires-clause-typed
+pass_rest-requires-clause-typed c = laws.behind_fields c.requires.inside c.in_ok-first.ensures c.in_ok-own.ensures c.requires.typed
 
-pub returns-in-Whole : goal.returns-in-Whole
-returns-in-Whole c = search laws.find_good
+pub pass_rest-requires-clause-inside : goal.pass_rest-requires-clause-inside
+pass_rest-requires-clause-inside c = laws.field_end_in c.requires.inside c.in_ok-first.ensures c.in_ok-own.ensures c.requires.typed
+
+pub returns-in_err-pass_rest : goal.returns-in_err-pass_rest
+returns-in_err-pass_rest c =
+    let p = err_from_is_err_and c.from_residual-in_err-pass_rest.result c.from_residual-in_err-pass_rest.ensures.1 in
+    rw (p.1, p.2) (laws.find_rest_bad c.requires.inside c.in_ok-first.ensures c.in_ok-own.ensures c.in_err-pass_rest.ensures)
+
+pub returns : goal.returns
+returns c = laws.find_good c.requires.inside c.in_ok-first.ensures c.in_ok-own.ensures c.in_ok-pass_rest.ensures

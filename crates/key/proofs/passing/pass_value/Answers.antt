@@ -2,8 +2,8 @@
 use Rattle.key.proofs.PassLaws as laws
 use Rattle.key.proofs.passing.pass_value.Goals as goal
 
-pub returns-in-Bad : goal.returns-in-Bad
-returns-in-Bad c = search laws.value_refused
+pub returns-in-Err : goal.returns-in-Err
+returns-in-Err c = laws.value_refused c.in-Err.ensures
 
-pub returns-in-Good : goal.returns-in-Good
-returns-in-Good c = search laws.value_to
+pub returns-in-Ok : goal.returns-in-Ok
+returns-in-Ok c = laws.value_to c.in-Ok.ensures

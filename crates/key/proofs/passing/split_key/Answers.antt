@@ -1,22 +1,26 @@
 -- The key's fields are its first k and the rest: the rest's types stand where the first end, and both parts decode where the key does.
-use native.Mathlib.Omega.{arith}
+use Rattle.std.proofs.lemmas.Result.{err_from_is_err_and}
 use Rattle.key.proofs.SpanLaws as laws
 use Rattle.key.proofs.passing.split_key.Goals as goal
 
-pub pass_fields-requires : goal.pass_fields-requires
-pass_fields-requires c = record { typed = laws.first_fields c.requires.inside c.requires.typed; inside = omega arith }
+pub pass_fields-requires-clause-typed : goal.pass_fields-requires-clause-typed
+pass_fields-requires-clause-typed c = laws.first_fields c.requires.inside c.requires.typed
 
-pub pass_rest-requires : goal.pass_rest-requires
-pass_rest-requires c =
-    let first = c.pass_fields.ensures in
-    let to = c.in-To.is in
-    record { typed = laws.rest_fields c.requires.inside first to c.requires.typed; inside = laws.start_in c.requires.inside first to c.requires.typed }
+pub returns-in_err-first : goal.returns-in_err-first
+returns-in_err-first c =
+    let p = err_from_is_err_and c.from_residual.result c.from_residual.ensures.1 in
+    rw (p.1, p.2) (laws.split_bad c.requires.inside c.in_err-first.ensures)
 
-pub returns-in-Refused : goal.returns-in-Refused
-returns-in-Refused c = search laws.split_bad
+pub pass_rest-requires-clause-typed : goal.pass_rest-requires-clause-typed
+pass_rest-requires-clause-typed c = laws.rest_fields c.requires.inside c.in_ok-first.ensures c.requires.typed
 
-pub returns-in-Refused-pass_rest : goal.returns-in-Refused-pass_rest
-returns-in-Refused-pass_rest c = search laws.split_rest_bad
+pub pass_rest-requires-clause-inside : goal.pass_rest-requires-clause-inside
+pass_rest-requires-clause-inside c = laws.start_in c.requires.inside c.in_ok-first.ensures c.requires.typed
 
-pub returns-in-Whole : goal.returns-in-Whole
-returns-in-Whole c = search laws.split_good
+pub returns-in_err-pass_rest : goal.returns-in_err-pass_rest
+returns-in_err-pass_rest c =
+    let p = err_from_is_err_and c.from_residual-in_err-pass_rest.result c.from_residual-in_err-pass_rest.ensures.1 in
+    rw (p.1, p.2) (laws.split_rest_bad c.requires.inside c.in_ok-first.ensures c.in_err-pass_rest.ensures)
+
+pub returns : goal.returns
+returns c = laws.split_good c.requires.inside c.in_ok-first.ensures c.in_ok-pass_rest.ensures

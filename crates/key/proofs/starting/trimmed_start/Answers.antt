@@ -1,16 +1,10 @@
 -- What is left of s ends in no FF: its beginning does where its last byte is a zero, and there by one.
 use Rattle.key.proofs.StartingLaws as laws
-use mathlib.Core.Path.{sym}
 use native.Mathlib.Omega.{arith}
-use lib.Seq.{length-take-le}
-use borrow.Author.Rules.{rules}
 use Rattle.key.proofs.starting.trimmed_start.Goals as goal
 
 pub returns-then-n-eq0 : goal.returns-then-n-eq0
 returns-then-n-eq0 c = laws.trim_nothing c.trimmed_len-n.ensures c.if-n-eq0.true
-
-pub slice_bounds-start_len-end : goal.slice_bounds-start_len-end
-slice_bounds-start_len-end c = sym (length-take-le c.trimmed_len-n.result c.args.s.now c.trimmed_len-n.ensures.short)
 
 pub overflow_sub-result : goal.overflow_sub-result
 overflow_sub-result c = omega (arith, laws.trim_some c.trimmed_len-n.ensures c.if-n-eq0.false c.if-s-n-eq0.true)

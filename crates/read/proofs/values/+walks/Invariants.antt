@@ -15,8 +15,5 @@ decreases-walk_plain l = 3 * (length l.ty.now - l.at)
 abbrev pub decreases-walk_value : goal.decreases-walk_value
 decreases-walk_value l = 3 * (length l.ty.now - l.at) + 1
 
-abbrev pub invariant-walk_fields-loop-left : goal.invariant-walk_fields-loop-left
-invariant-walk_fields-loop-left l = fields.Turned l.ty l.at l.n l.bytes l.i l.depth l.asked l.a l.left l.j l.w l.p l.b
-
-abbrev pub decreases-walk_fields-loop-left : goal.decreases-walk_fields-loop-left
-decreases-walk_fields-loop-left l = l.left
+abbrev pub invariant-walk_fields-loop-done : goal.invariant-walk_fields-loop-done
+invariant-walk_fields-loop-done l = fields.Turned l.ty l.fn.at l.n l.bytes l.i l.depth l.asked (l.n - l.done) l.sum

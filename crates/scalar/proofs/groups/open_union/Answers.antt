@@ -1,24 +1,19 @@
 -- The cases of `union_mark`; what the discriminant took is known from the call that read it.
 use Rattle.std.proofs.Common.{arith}
+use Rattle.std.proofs.lemmas.Result.{err_from_is_err_and}
 use Rattle.scalar.proofs.GroupLaws as laws
 use Rattle.scalar.proofs.groups.open_union.Goals as goal
 
-pub returns-then-rest-eq0 : goal.returns-then-rest-eq0
-returns-then-rest-eq0 c = search laws.union_eof
-
-pub returns-then-mark-ne-MARK_UNION : goal.returns-then-mark-ne-MARK_UNION
-returns-then-mark-ne-MARK_UNION c = search laws.union_mark_lem
+pub returns-in_err-tag : goal.returns-in_err-tag
+returns-in_err-tag c =
+    let e = err_from_is_err_and c.from_residual-in_err-tag.result c.from_residual-in_err-tag.ensures.1 in
+    rw (e.1, e.2) (laws.union_bad c.args.depth c.args.rest.now c.in_ok-expect_mark.ensures c.in_err-tag.ensures)
 
 pub returns-then-depth-ge-MAX_RECORD_DEPTH : goal.returns-then-depth-ge-MAX_RECORD_DEPTH
-returns-then-depth-ge-MAX_RECORD_DEPTH c = search laws.union_deep
+returns-then-depth-ge-MAX_RECORD_DEPTH c = search (laws.union_deep, c.in_ok-expect_mark.ensures, c.in_ok-tag.ensures)
 
 pub overflow_add-result : goal.overflow_add-result
-overflow_add-result c =
-    let a = c.args in
-    omega (arith, laws.union_within a.depth a.rest.now c.if-rest-eq0.false c.if-mark-ne-MARK_UNION.false c.get_u64.result c.get_u64.ensures _ _ c.in-Value.is)
+overflow_add-result c = omega (arith, laws.union_within c.args.depth c.args.rest.now c.in_ok-expect_mark.ensures c.in_ok-tag.ensures)
 
-pub returns-else-depth-ge-MAX_RECORD_DEPTH : goal.returns-else-depth-ge-MAX_RECORD_DEPTH
-returns-else-depth-ge-MAX_RECORD_DEPTH c = search laws.union_open
-
-pub returns-in-Refused : goal.returns-in-Refused
-returns-in-Refused c = search laws.union_bad
+pub returns : goal.returns
+returns c = search (laws.union_open, c.in_ok-expect_mark.ensures, c.in_ok-tag.ensures)

@@ -2,11 +2,11 @@
 use Rattle.scalar.proofs.Placing as laws
 use Rattle.scalar.proofs.payloads.place_payload.Goals as goal
 
-pub returns-then-n-end : goal.returns-then-n-end
-returns-then-n-end c = search laws.place_key
+pub returns-then-len-run : goal.returns-then-len-run
+returns-then-len-run c = search laws.place_key
 
-pub returns-then-scratch-n : goal.returns-then-scratch-n
-returns-then-scratch-n c = search laws.place_short
+pub returns-then-scratch-len : goal.returns-then-scratch-len
+returns-then-scratch-len c = search laws.place_short
 
 pub returns : goal.returns
 returns c = search laws.place_scratch

@@ -5,8 +5,8 @@ use Rattle.scalar.proofs.refs.judge.Goals as goal
 pub returns-then-sequence_of-eq0 : goal.returns-then-sequence_of-eq0
 returns-then-sequence_of-eq0 c = search laws.judged_reserved
 
-pub returns-then-found-wide_word : goal.returns-then-found-wide_word
-returns-then-found-wide_word c = search laws.judged_other
+pub returns-then-found-from : goal.returns-then-found-from
+returns-then-found-from c = search laws.judged_other
 
 pub returns : goal.returns
 returns c = search laws.judged_fits

@@ -14,8 +14,8 @@ slice_bounds-count_zeros-start c = search laws.end_after
 pub slice_bounds-count_zeros-count : goal.slice_bounds-count_zeros-count
 slice_bounds-count_zeros-count c = search laws.end_after
 
-pub overflow_sub-result : goal.overflow_sub-result
-overflow_sub-result c = search laws.zeros_room
+pub overflow_sub-len : goal.overflow_sub-len
+overflow_sub-len c = search laws.zeros_room
 
 pub returns : goal.returns
 returns c = search laws.measured_ends

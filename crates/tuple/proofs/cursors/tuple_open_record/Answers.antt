@@ -5,4 +5,4 @@ use Rattle.tuple.specs.StepNumbers as numbers
 use Rattle.tuple.proofs.cursors.tuple_open_record.Goals as goal
 
 pub returns : goal.returns
-returns c = laws.at_cursor (cursor.open_record _) (numbers.moved_step _ _) _ _ _ _ c.of_moved.ensures c.open_record.ensures c.cursor_at-c.ensures
+returns c = laws.at_cursor (cursor.open_record _) (numbers.moved_step _ _) _ _ _ _ c.of_moved.ensures.moved c.open_record.ensures c.cursor_at-c.ensures

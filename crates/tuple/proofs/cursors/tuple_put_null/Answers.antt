@@ -4,4 +4,4 @@ use Rattle.tuple.proofs.StepLaws as laws
 use Rattle.tuple.proofs.cursors.tuple_put_null.Goals as goal
 
 pub returns : goal.returns
-returns c = laws.written (cursor.put_null _) _ _ _ _ _ _ _ c.of_wrote.ensures c.put_null.ensures c.cursor_at-c.ensures
+returns c = laws.written (cursor.put_null _) _ _ _ _ _ _ _ c.of_moved.ensures.wrote c.put_null.ensures c.cursor_at-c.ensures

@@ -4,4 +4,4 @@ use Rattle.tuple.proofs.StepLaws as laws
 use Rattle.tuple.proofs.cursors.tuple_put_union.Goals as goal
 
 pub returns : goal.returns
-returns c = laws.tagged cursor.put_union _ _ _ _ _ _ _ _ _ c.of_wrote.ensures c.put_union.ensures c.cursor_at-c.ensures
+returns c = laws.tagged cursor.put_union _ _ _ _ _ _ _ _ _ c.of_moved.ensures.wrote c.put_union.ensures c.cursor_at-c.ensures

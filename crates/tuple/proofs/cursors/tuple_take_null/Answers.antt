@@ -5,4 +5,4 @@ use Rattle.tuple.specs.StepNumbers as numbers
 use Rattle.tuple.proofs.cursors.tuple_take_null.Goals as goal
 
 pub returns : goal.returns
-returns c = laws.at_cursor (cursor.take_null _) (numbers.moved_step _ _) _ _ _ _ c.of_moved.ensures c.take_null.ensures c.cursor_at-c.ensures
+returns c = laws.at_cursor (cursor.take_null _) (numbers.moved_step _ _) _ _ _ _ c.of_moved.ensures.moved c.take_null.ensures c.cursor_at-c.ensures

@@ -3,4 +3,4 @@ use Rattle.tuple.proofs.Laws as laws
 use Rattle.tuple.proofs.fields.tuple_get_str.Goals as goal
 
 pub returns : goal.returns
-returns c = laws.handed _ _ _ _ c.of_part.ensures c.get_str.ensures
+returns c = laws.handed _ _ _ _ c.from.ensures c.get_str.ensures

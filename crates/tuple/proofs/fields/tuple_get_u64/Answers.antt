@@ -4,4 +4,4 @@ use Rattle.tuple.specs.Numbers.{number_of}
 use Rattle.tuple.proofs.fields.tuple_get_u64.Goals as goal
 
 pub returns : goal.returns
-returns c = c.of_int.ensures ∙ ap number_of c.get_u64.ensures
+returns c = c.from.ensures ∙ ap number_of c.get_u64.ensures

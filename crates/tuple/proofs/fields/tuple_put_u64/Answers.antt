@@ -3,4 +3,4 @@ use Rattle.tuple.proofs.Laws as laws
 use Rattle.tuple.proofs.fields.tuple_put_u64.Goals as goal
 
 pub returns : goal.returns
-returns c = laws.wrote _ _ _ _ c.of_length.ensures c.put_u64.ensures
+returns c = laws.wrote _ _ _ _ c.from.ensures c.put_u64.ensures

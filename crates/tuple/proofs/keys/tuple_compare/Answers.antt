@@ -4,4 +4,4 @@ use Rattle.tuple.specs.Numbers.{order_of}
 use Rattle.tuple.proofs.keys.tuple_compare.Goals as goal
 
 pub returns : goal.returns
-returns c = c.of_compared.ensures ∙ ap order_of c.compare.ensures
+returns c = c.from.ensures ∙ ap order_of c.compare.ensures

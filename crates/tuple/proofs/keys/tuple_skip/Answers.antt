@@ -4,4 +4,4 @@ use Rattle.tuple.specs.Numbers.{length_of}
 use Rattle.tuple.proofs.keys.tuple_skip.Goals as goal
 
 pub returns : goal.returns
-returns c = c.of_length.ensures ∙ ap length_of c.skip.ensures
+returns c = c.from.ensures ∙ ap length_of c.skip.ensures

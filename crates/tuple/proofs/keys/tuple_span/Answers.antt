@@ -3,4 +3,4 @@ use Rattle.tuple.proofs.Laws as laws
 use Rattle.tuple.proofs.keys.tuple_span.Goals as goal
 
 pub returns : goal.returns
-returns c = laws.bounded _ _ _ _ _ c.of_bounded.ensures c.span.ensures
+returns c = laws.bounded _ _ _ _ _ c.from.ensures c.span.ensures

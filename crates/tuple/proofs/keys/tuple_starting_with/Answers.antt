@@ -3,4 +3,4 @@ use Rattle.tuple.proofs.Laws as laws
 use Rattle.tuple.proofs.keys.tuple_starting_with.Goals as goal
 
 pub returns : goal.returns
-returns c = laws.bounded _ _ _ _ _ c.of_bounded.ensures c.starting_with.ensures
+returns c = laws.bounded _ _ _ _ _ c.from.ensures c.starting_with.ensures

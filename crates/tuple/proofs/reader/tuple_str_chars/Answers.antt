@@ -3,4 +3,4 @@ use Rattle.tuple.proofs.StepLaws as laws
 use Rattle.tuple.proofs.reader.tuple_str_chars.Goals as goal
 
 pub returns : goal.returns
-returns c = laws.opened c.open_at.result.refusal c.open_at.result.detail _ _ _ c.of_opening.ensures c.open_at.ensures.answer
+returns c = laws.opened c.open_at.result _ _ _ c.from.ensures c.open_at.ensures.answer

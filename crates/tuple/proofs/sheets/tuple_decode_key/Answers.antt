@@ -3,4 +3,4 @@ use Rattle.tuple.proofs.Laws as laws
 use Rattle.tuple.proofs.sheets.tuple_decode_key.Goals as goal
 
 pub returns : goal.returns
-returns c = laws.filled _ _ c.decode_key.result _ _ _ c.of_decoded.ensures c.decode_key.ensures
+returns c = laws.filled _ _ c.decode_key.result _ _ _ c.from.ensures c.decode_key.ensures

@@ -3,4 +3,4 @@ use Rattle.tuple.proofs.Laws as laws
 use Rattle.tuple.proofs.sheets.tuple_decode_typed.Goals as goal
 
 pub returns : goal.returns
-returns c = laws.filled _ _ c.decode_typed.result _ _ _ c.of_decoded.ensures c.decode_typed.ensures
+returns c = laws.filled _ _ c.decode_typed.result _ _ _ c.from.ensures c.decode_typed.ensures

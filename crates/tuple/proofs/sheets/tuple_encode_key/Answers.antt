@@ -6,4 +6,4 @@ use Rattle.tuple.proofs.sheets.tuple_encode_key.Goals as goal
 pub returns : goal.returns
 returns c =
     let e = c.encode_key in
-    laws.encoded_as e.result (refusals_numbered.encode_key _ _ _ _) c.of_encoded.ensures e.ensures
+    laws.encoded_as e.result (refusals_numbered.encode_key _ _ _ _) c.from.ensures e.ensures

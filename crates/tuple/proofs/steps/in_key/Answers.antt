@@ -1,5 +1,0 @@
--- Case by case: the numbers of the step are those that its meaning has.
-use Rattle.tuple.proofs.steps.in_key.Goals as goal
-
-pub returns : goal.returns
-returns c = cc
