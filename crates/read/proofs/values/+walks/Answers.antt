@@ -1,3 +1,4 @@
+-- Each goal is what stands at its place (a turn of the loop, behind a record's opening, at an alternative, a blank or what is none), and the law of that way out.
 use Rattle.std.proofs.Common.{◌*◌, ◌^◌, ◌≤◌, take, ◌≡◌, List, ℕ, ◌-◌, ◌<◌, drop, length, arith, get_or, ap}
 use Rattle.std.specs.Prelude.{Result, Ok, Err, Option, Some, None}
 use Rattle.std.proofs.lemmas.Result.{err_from_is_err_and}
