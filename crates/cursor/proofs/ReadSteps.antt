@@ -1,11 +1,11 @@
 -- What a reading step answers, by what was read at the front of the rest of the key.
-use Rattle.std.proofs.Common.{◌≡◌, ◌∙◌, refl, sym, ap, Bool, true, false, List, [], ◌∷◌, ℕ, ◌+◌, ◌-◌, ◌^◌, ◌≤◌, ◌<◌, arith, ltb, leb, eqb, length, length-drop, ne_eqb, eq-eqb, eqb-true, Result, Ok, Err}
+use Rattle.std.proofs.Common.{◌≡◌, ◌∙◌, refl, sym, ap, Bool, true, false, List, [], ◌∷◌, ℕ, ◌+◌, ◌-◌, ◌^◌, ◌≤◌, ◌<◌, arith, ltb, leb, eqb, length, length-drop, ne_eqb, eq-eqb, eqb-true, Result}
 use borrow.Author.Tests.{eqb-false}
 use Rattle.format.specs.Answer.{if, Answer, ok, refused, and_then}
-use Rattle.format.specs.Refusals.{number_of, detail_of, answered}
+use Rattle.format.specs.Refusals.{answered}
 use Rattle.format.specs.declared.refusal.Refusal.{Refusal}
 use Rattle.format.specs.Read.{Read, got, bad, get_int, get_uint, get_fact_id, get_str, get_bytes, ends_here}
-use Rattle.format.specs.Fields.{Taken as TakenField, Place as PlaceField, taken_from, has_zero, placed_from, get_i64_call, get_u64_call, get_str_call, get_bytes_call}
+use Rattle.format.specs.Fields.{Taken as TakenField, taken_from, has_zero, placed_from, get_i64_call, get_u64_call, get_str_call, get_bytes_call}
 use Rattle.format.specs.Skip.{end_of}
 use Rattle.format.specs.Cursor as cursor
 use Rattle.scalar.specs.Answers.{Gives, got_int, got_part, get_fact_id_call}
@@ -14,7 +14,7 @@ use Rattle.scalar.specs.declared.taken.Taken.{Taken}
 use Rattle.scalar.proofs.Cases.{by_test}
 use Rattle.scalar.proofs.GroupLaws.{null_depth}
 use Rattle.cursor.specs.declared.Cursor.{Cursor}
-use Rattle.cursor.specs.Steps.{cursor_of, inner, outer, taken_of, moved_of, part_answer, end_of as ahead_of, Hands, used_of, step_of, key_place, PartFits, int_moved, step_moved, part_moved}
+use Rattle.cursor.specs.Steps.{cursor_of, outer, taken_of, moved_of, part_answer, Hands, used_of, key_place, PartFits, int_moved, step_moved, part_moved}
 
 -- ---- a depth or a refusal
 
@@ -40,19 +40,12 @@ used_most : (b : List ℕ) (x : Read ℕ) → used_of (taken_from b x) ≤ lengt
 used_most b (got a r) = omega arith
 used_most b (bad n d) = omega arith
 
-step_most : (b : List ℕ) (x : Read Unit) → step_of (end_of b x) ≤ length b
-step_most b (got a r) = omega arith
-step_most b (bad n d) = omega arith
-
 module _ (key : List ℕ) (c : Cursor) (b : List ℕ) (e : b ≡ cursor.rest key (cursor_of c)) where
   -- what was taken ends in the key, and past the key's end nothing is taken
   behind : length key < 2 ^ 64 → c.at < 2 ^ 64 → {n : ℕ} → n ≤ length b → c.at + n < 2 ^ 64
   behind h k {n} l = omega (arith, ap length e ∙ length-drop c.at key)
 
   module _ (h : length key < 2 ^ 64) (k : c.at < 2 ^ 64) where
-    pub step_room : (g : Result ℕ Refusal) (x : Read Unit) → answered g ≡ end_of b x → c.at + step_of (answered g) < 2 ^ 64
-    step_room g x p = rw p (behind h k (step_most b x))
-
     module _ (g : Result (Taken ℕ) Refusal) where
       pub int_room : (x : Read ℕ) → got_int g ≡ taken_from b x → c.at + used_of (got_int g) < 2 ^ 64
       int_room x p = rw p (behind h k (used_most b x))

@@ -1,5 +1,5 @@
 -- What a writing step answers and leaves, by what putting its bytes answered and left.
-use Rattle.std.proofs.Common.{◌≡◌, ◌∙◌, refl, sym, ap, true, false, List, [], ◌∷◌, ℕ, ◌+◌, ◌-◌, ◌≤◌, ◌<◌, arith, eqb, ltb, length, take, lt-ltb, le-ltb, Result, Ok, Err}
+use Rattle.std.proofs.Common.{◌≡◌, ◌∙◌, refl, sym, ap, true, List, [], ◌∷◌, ℕ, ◌+◌, ◌-◌, arith, eqb, ltb, take, lt-ltb, le-ltb, Result, Err}
 use Rattle.format.specs.Answer.{ok, refused}
 use Rattle.format.specs.Refusals.{number_of, detail_of, answered, Leaves}
 use Rattle.format.specs.declared.refusal.Refusal.{Refusal}
@@ -88,7 +88,3 @@ module _ (b : List ℕ) (c : Cursor) where
     pub end_none : refused (number_of x) (detail_of x) ≡ outer (cursor_of c) → StepLeaves (cursor.put_end b (cursor_of c)) (Err x) b
     unfolding cursor.put_end
     end_none o = by_test (eqb c.depth 0) (λ t. rw t (record { answer = refusal_at (rw t at o); left = refl })) (λ t. no_depth (rw t at o))
-
--- a union's tag is bytes as they stand
-pub tag_part : (disc : ℕ) (t : List ℕ) (n : ℕ) → TagIn disc t n → n ≡ length (take n t)
-tag_part disc t n h = h.long ∙ sym (ap length h.front)

@@ -19,7 +19,7 @@ pub use writing::{
 };
 
 // A place in the bytes and how many groups are open. Any place and any depth will do: past the end nothing is left, and a depth over 256 is 256.
-#[derive(Clone, Copy, Debug, PartialEq, Eq, Default)]
+#[derive(Clone, Copy, Debug, PartialEq, Eq)]
 pub struct Cursor {
     pub at: usize,
     pub depth: u32,

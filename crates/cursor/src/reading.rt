@@ -37,8 +37,8 @@ fn taken_int(
     requires { c.at + used_of (got_int got) < 2 ^ 64 }
     ensures { taken_of result ≡ int_moved depth (cursor_of c) (got_int got) }
 {
-    let t = got?;
-    Ok((t.value, on_to(c, t.used, depth)))
+    let number = got?;
+    Ok((number.value, on_to(c, number.used, depth)))
 }
 
 // Takes a signed integer as its word.
@@ -67,9 +67,9 @@ fn taken_part(c: Cursor, got: Result<Taken<Place>, Refusal>) -> Result<(Place, C
     requires { PartFits c.at (got_part got) }
     ensures { part_answer result ≡ part_moved (cursor_of c) (got_part got) }
 {
-    let t = got?;
-    let next = on_to(c, t.used, depth_of(c));
-    match t.value {
+    let part = got?;
+    let next = on_to(c, part.used, depth_of(c));
+    match part.value {
         Place::InKey { at, len } => Ok((Place::InKey { at: c.at + at, len }, next)),
         Place::InScratch { len } => Ok((Place::InScratch { len }, next)),
     }
@@ -99,10 +99,8 @@ pub fn payload<'a>(
 ) -> &'a [u8]
     ensures { result.now ≡ part_in key.now scratch.now (part_answer taken) }
 {
-    match taken {
-        Ok((value, _)) => scalar::payload(key, scratch, Ok(Taken { value, used: 0 })),
-        Err(why) => scalar::payload(key, scratch, Err(why)),
-    }
+    let got = taken.map(|(value, _)| Taken { value, used: 0 });
+    scalar::payload(key, scratch, got)
 }
 
 // A step at the cursor that has no value of its own, and a depth behind it.

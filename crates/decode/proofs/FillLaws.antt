@@ -7,19 +7,24 @@ use Prim.Native.Nat.{ℕ, ◌≤◌, ◌<◌, ◌^◌}
 use native.Mathlib.Omega.{arith}
 use borrow.Author.Tests.{lt-ltb, le-ltb, not-true, not-false}
 use lib.ListN.{length}
+use Rattle.std.specs.Prelude.{Result, Ok, Err}
 use Rattle.format.specs.Answer.{ok, refused}
+use Rattle.format.specs.Refusals.{number_of, detail_of}
+use Rattle.format.specs.declared.refusal.Refusal.{Refusal}
+use Rattle.format.specs.declared.refusal.Refusal.TheVariants as made
 use Rattle.format.specs.Tree.{Ty, Val, Vals}
 use Rattle.format.specs.Sheet.{val_words, val_pool}
 use Rattle.format.specs.TypeSheet.{type_of, is_some}
 use Rattle.format.specs.Decode as format
-use Rattle.format.specs.Calls.{Filled, over, filled, decoded_by, checked_by, decode_typed_call, decode_key_call, check_key_call}
+use Rattle.format.specs.Calls.{Sizes, Filled, over, filled, decoded_by, checked_by, decode_typed_call, decode_key_call, check_key_call}
 use Rattle.format.proofs.Bytes.{AllBytes}
 use Rattle.format.proofs.CountLaws.{few_typed_call, few_key_call, few_check_call}
 use Rattle.format.proofs.FitLaws.{types_in}
 use Rattle.fill.specs.Fill.{ValueFilled, BareFilled}
 use Rattle.decode.specs.declared.Decoded.{Decoded}
-use Rattle.decode.specs.declared.CheckedKey.{CheckedKey}
-use Rattle.decode.specs.Answers.{decoded_of, checked_of, Decodes, ChecksKey, is_bare, read_top, decoded_top, measured_by, TopIs, TopFilled, Measures, Fills}
+use Rattle.read.specs.declared.Refused.{Refused}
+use Rattle.read.specs.Walk.{bad}
+use Rattle.decode.specs.Answers.{decoded_of, checked_of, Decodes, ChecksKey, is_bare, read_top, decoded_top, measured_by, measure_of, TopIs, TopFilled, Measures, Fills}
 use Rattle.decode.proofs.TopLaws.{ItsType, its_type, key_is_lem}
 
 -- no type was admitted
@@ -46,26 +51,28 @@ module _ {bytes win pin wout pout : List ℕ} {bare : Bool} where
 
 -- ---- what was measured, in the definition
 
-module _ {m : Decoded} where
-  refused_is : (D : format.Decoded Val) → m ≡ measured_by D → {n d k : ℕ} → m ≡ Decoded.Refused n d k → D ≡ format.Decoded.bad n d k
-  refused_is (format.Decoded.got v rest j) e h = let z : ◌≡◌ {A = ℕ} 0 1 = cc in absurd (omega arith)
-  refused_is (format.Decoded.bad x c j) e {n} {d} {k} h =
-      let e1 : x ≡ n = cc in
-      let e2 : c ≡ d = cc in
-      let e3 : j ≡ k = cc in
-      λ i. format.Decoded.bad (e1 i) (e2 i) (e3 i)
+abbrev sizes_in : format.Decoded Sizes → Sizes
+sizes_in (format.Decoded.got s l k) = s
+sizes_in (format.Decoded.bad n d k) = record { words = 0; pool = 0 }
 
-  accepted_is : (D : format.Decoded Val) → m ≡ measured_by D → {w p k : ℕ} → m ≡ Decoded.Done w p k → checked_of (CheckedKey.Accepted k) ≡ checked_by D
-  accepted_is (format.Decoded.got v rest j) e {k = k} h = let e3 : k ≡ j = cc in ap (λ (x : ℕ). checked_of (CheckedKey.Accepted x)) e3
-  accepted_is (format.Decoded.bad x c j) e h = let z : ◌≡◌ {A = ℕ} 0 1 = cc in absurd (omega arith)
+refused_is : (f : Refused) (D : format.Decoded Val) → measure_of (Err f) ≡ measured_by D → D ≡ format.Decoded.bad (number_of f.why) (detail_of f.why) f.begun
+refused_is f (format.Decoded.got v rest j) e = let z : ◌≡◌ {A = ℕ} 0 1 = cc in absurd (omega arith)
+refused_is f (format.Decoded.bad x c j) e =
+    let e1 : x ≡ number_of f.why = cc in
+    let e2 : c ≡ detail_of f.why = cc in
+    let e3 : j ≡ f.begun = cc in
+    λ i. format.Decoded.bad (e1 i) (e2 i) (e3 i)
 
-  -- a value, with nothing left over
-  done_is : (D : format.Decoded Val) → m ≡ measured_by (format.whole D) → {w p k : ℕ} → m ≡ Decoded.Done w p k
-      → (v : Val) × (D ≡ format.Decoded.got v [] k) × (w ≡ length (val_words v)) × (p ≡ length (val_pool v))
-  unfolding format.whole
-  done_is (format.Decoded.got v [] j) e {k = k} h = let e3 : j ≡ k = cc in (v, ap (format.Decoded.got v []) e3, (cc), (cc))
-  done_is (format.Decoded.got v (b ∷ bs) j) e h = let z : ◌≡◌ {A = ℕ} 0 1 = cc in absurd (omega arith)
-  done_is (format.Decoded.bad x c j) e h = let z : ◌≡◌ {A = ℕ} 0 1 = cc in absurd (omega arith)
+accepted_is : {s : Decoded} (D : format.Decoded Val) → measure_of (Ok s) ≡ measured_by D → checked_of (Ok s.begun) ≡ checked_by D
+accepted_is {s} (format.Decoded.got v rest j) e = let e3 : s.begun ≡ j = cc in ap (λ (x : ℕ). checked_of (Ok x)) e3
+accepted_is (format.Decoded.bad x c j) e = let z : ◌≡◌ {A = ℕ} 0 1 = cc in absurd (omega arith)
+
+-- a value, with nothing left over
+done_is : {s : Decoded} (D : format.Decoded Val) → measure_of (Ok s) ≡ measured_by (format.whole D) → (v : Val) × (D ≡ format.Decoded.got v [] s.begun) × (s.words ≡ length (val_words v)) × (s.pool ≡ length (val_pool v))
+unfolding format.whole
+done_is {s} (format.Decoded.got v [] j) e = let e3 : j ≡ s.begun = cc in (v, ap (format.Decoded.got v []) e3, ap (λ (d : format.Decoded Sizes). (sizes_in d).words) e, ap (λ (d : format.Decoded Sizes). (sizes_in d).pool) e)
+done_is (format.Decoded.got v (b ∷ bs) j) e = let z : ◌≡◌ {A = ℕ} 0 1 = cc in absurd (omega arith)
+done_is (format.Decoded.bad x c j) e = let z : ◌≡◌ {A = ℕ} 0 1 = cc in absurd (omega arith)
 
 -- a sheet and the room for it
 module _ (win pin : List ℕ) (v : Val) (k : ℕ) where
@@ -82,20 +89,20 @@ module _ (win pin : List ℕ) (v : Val) (k : ℕ) where
 
 -- ---- the ways out of decoding, where the type at the top was asked for and the value measured
 
-pub record Measured (key : Bool) (ty bytes : List ℕ) (bare : Bool) (m : Decoded) : Type 0 where
+pub record Measured (key : Bool) (ty bytes : List ℕ) (bare : Bool) (m : Result Decoded Refused) : Type 0 where
   pub admits : is_some (type_of ty) ≡ true
   pub top_is : TopIs key ty bare
   pub measures : Measures bare ty bytes m
 
-pub measured : {key : Bool} {ty bytes : List ℕ} {bare : Bool} {m : Decoded} {q : Bool} → q ≡ is_some (type_of ty) → not q ≡ false → TopIs key ty bare → Measures bare ty bytes m
+pub measured : {key : Bool} {ty bytes : List ℕ} {bare : Bool} {m : Result Decoded Refused} {q : Bool} → q ≡ is_some (type_of ty) → not q ≡ false → TopIs key ty bare → Measures bare ty bytes m
     → Measured key ty bytes bare m
 measured {q = q} e l i h = record { admits = sym e ∙ not-false q l; top_is = i; measures = h }
 
 -- no type is admitted
-pub f_type : {key : Bool} {ty bytes win pin : List ℕ} {s : Decoded} {q : Bool} → q ≡ is_some (type_of ty) → not q ≡ true → s ≡ Decoded.Refused 15 0 0 → Fills key ty bytes win pin s win pin
-f_type {ty = ty} {q = q} a l e = record { is = rw (e, none_is (type_of ty) (sym a ∙ not-true q l)) }
+pub f_type : {key : Bool} {ty bytes win pin : List ℕ} {q : Bool} → q ≡ is_some (type_of ty) → not q ≡ true → Fills key ty bytes win pin (Err (bad made.BadType 0)) win pin
+f_type {ty = ty} {q = q} a l = record { is = rw (none_is (type_of ty) (sym a ∙ not-true q l)) }
 
-module _ {key : Bool} {ty bytes : List ℕ} {bare : Bool} {m : Decoded} (M : Measured key ty bytes bare m) where
+module _ {key : Bool} {ty bytes : List ℕ} {bare : Bool} {m : Result Decoded Refused} (M : Measured key ty bytes bare m) where
   its : ItsType ty
   its = its_type ty M.admits
 
@@ -104,39 +111,41 @@ module _ {key : Bool} {ty bytes : List ℕ} {bare : Bool} {m : Decoded} (M : Mea
       ap (λ (o : Option Ty). decoded_by o (λ t. format.whole (read_top (is_bare key t) t bytes))) its.typed
       ∙ ap (λ (b : Bool). format.whole (read_top b its.t bytes)) (M.top_is.is its.t (length ty) its.here)
 
-  pub measured_is : m ≡ measured_by (decoded_top key ty bytes)
+  measured_is : measure_of m ≡ measured_by (decoded_top key ty bytes)
   measured_is = M.measures.is its.t (length ty) its.here its.deep ∙ sym (ap measured_by top_read)
 
-  pub f_bad : {n d k : ℕ} → m ≡ Decoded.Refused n d k → {win pin : List ℕ} {s : Decoded} → s ≡ Decoded.Refused n d k → Fills key ty bytes win pin s win pin
-  f_bad y {win} {pin} e = record { is = rw e (sym (ap (filled win pin) (refused_is (decoded_top key ty bytes) measured_is y))) }
+module _ {key : Bool} {ty bytes : List ℕ} {bare : Bool} where
+  pub f_bad : {f : Refused} → Measured key ty bytes bare (Err f) → {win pin : List ℕ} → Fills key ty bytes win pin (Err f) win pin
+  f_bad M {win} {pin} = record { is = sym (ap (filled win pin) (refused_is _ (decoded_top key ty bytes) (measured_is M))) }
 
-  module _ {w p k : ℕ} (h : m ≡ Decoded.Done w p k) where
-    value : (v : Val) × (read_top bare its.t bytes ≡ format.Decoded.got v [] k) × (w ≡ length (val_words v)) × (p ≡ length (val_pool v))
-    value = done_is (read_top bare its.t bytes) (measured_is ∙ ap measured_by top_read) h
+  module _ {s : Decoded} (M : Measured key ty bytes bare (Ok s)) where
+    value : (v : Val) × (read_top bare (its M).t bytes ≡ format.Decoded.got v [] s.begun) × (s.words ≡ length (val_words v)) × (s.pool ≡ length (val_pool v))
+    value = done_is (read_top bare (its M).t bytes) (measured_is M ∙ ap measured_by (top_read M))
 
     -- the call's buffers and answer, by the room for the value
-    fills : {win pin : List ℕ} {r : Decoded} {wout pout : List ℕ} (F : Filled) → decoded_of r wout pout ≡ F → filled win pin (format.Decoded.got value.0 [] k) ≡ F → Fills key ty bytes win pin r wout pout
+    fills : {win pin : List ℕ} {r : Result Decoded Refused} {wout pout : List ℕ} (F : Filled) → decoded_of r wout pout ≡ F → filled win pin (format.Decoded.got value.0 [] s.begun) ≡ F
+        → Fills key ty bytes win pin r wout pout
     unfolding format.whole
-    fills {win} {pin} F e f = record { is = e ∙ sym (ap (filled win pin) (top_read ∙ ap format.whole value.1) ∙ f) }
+    fills {win} {pin} F e f = record { is = e ∙ sym (ap (filled win pin) (top_read M ∙ ap format.whole value.1) ∙ f) }
 
     module _ {win pin : List ℕ} where
-      pub f_words : {s : Decoded} → w < 2 ^ 64 → length win < w → s ≡ Decoded.Refused 17 w k → Fills key ty bytes win pin s win pin
-      f_words small short e = fills _ (ap (λ (x : Decoded). decoded_of x win pin) e) (no_words win pin value.0 k value.2 small short)
+      pub f_words : s.words < 2 ^ 64 → length win < s.words → Fills key ty bytes win pin (Err (bad (made.NoRoom s.words) s.begun)) win pin
+      f_words small short = fills _ refl (no_words win pin value.0 s.begun value.2 small short)
 
-      module _ (room : w ≤ length win) where
-        pub f_pool : {s : Decoded} → p < 2 ^ 64 → length pin < p → s ≡ Decoded.Refused 17 p k → Fills key ty bytes win pin s win pin
-        f_pool small short e = fills _ (ap (λ (x : Decoded). decoded_of x win pin) e) (no_pool win pin value.0 k (omega (arith, value.2)) value.3 small short)
+      module _ (room : s.words ≤ length win) where
+        pub f_pool : s.pool < 2 ^ 64 → length pin < s.pool → Fills key ty bytes win pin (Err (bad (made.NoRoom s.pool) s.begun)) win pin
+        f_pool small short = fills _ refl (no_pool win pin value.0 s.begun (omega (arith, value.2)) value.3 small short)
 
-        pub f_done : p ≤ length pin → {wout pout : List ℕ} → TopFilled bare bytes win pin wout pout → Fills key ty bytes win pin (Decoded.Done w p k) wout pout
+        pub f_done : s.pool ≤ length pin → {wout pout : List ℕ} → TopFilled bare bytes win pin wout pout → Fills key ty bytes win pin (Ok s) wout pout
         f_done room2 f =
             let lw : length (val_words value.0) ≤ length win = omega (arith, value.2) in
             let lp : length (val_pool value.0) ≤ length pin = omega (arith, value.3) in
-            let g = f.fills its.t value.0 k value.1 lw lp in
-            fills _ (λ j. decoded_of (Decoded.Done (value.2 j) (value.3 j) k) (g.0 j) (g.1 j)) (all_room win pin value.0 k lw lp)
+            let g = f.fills (its M).t value.0 s.begun value.1 lw lp in
+            fills _ (λ j. decoded_of (Ok (record { words = value.2 j; pool = value.3 j; begun = s.begun })) (g.0 j) (g.1 j)) (all_room win pin value.0 s.begun lw lp)
 
 -- ---- the calls
 
-module _ {ty bytes win pin : List ℕ} {r : Decoded} {wout pout : List ℕ} where
+module _ {ty bytes win pin : List ℕ} {r : Result Decoded Refused} {wout pout : List ℕ} where
   pub typed_call : AllBytes bytes → Fills false ty bytes win pin r wout pout → Decodes (decode_typed_call ty bytes win pin) bytes r wout pout
   unfolding decode_typed_call
   typed_call ab f = record { is = f.is; few = rw f.is (few_typed_call ty bytes win pin ab) }
@@ -148,18 +157,18 @@ module _ {ty bytes win pin : List ℕ} {r : Decoded} {wout pout : List ℕ} wher
       record { is = q; few = rw q (few_key_call ty bytes win pin ab) }
 
 module _ (ty : List ℕ) {bytes : List ℕ} (ab : AllBytes bytes) where
-  checked : {r : CheckedKey} → checked_of r ≡ checked_by (decoded_top true ty bytes) → ChecksKey (check_key_call ty bytes) bytes r
+  checked : {r : Result ℕ Refused} → checked_of r ≡ checked_by (decoded_top true ty bytes) → ChecksKey (check_key_call ty bytes) bytes r
   unfolding check_key_call
   checked {r} e =
       let q : checked_of r ≡ check_key_call ty bytes = e ∙ (λ j. checked_by (decoded_by (type_of ty) (λ t. key_is_lem t bytes j))) in
       record { is = q; few = rw q (few_check_call ty bytes ab) }
 
-  pub c_type : {q : Bool} → q ≡ is_some (type_of ty) → not q ≡ true → ChecksKey (check_key_call ty bytes) bytes (CheckedKey.Refused 15 0 0)
+  pub c_type : {q : Bool} → q ≡ is_some (type_of ty) → not q ≡ true → ChecksKey (check_key_call ty bytes) bytes (Err (bad made.BadType 0))
   c_type {q} a l = checked (rw (none_is (type_of ty) (sym a ∙ not-true q l)))
 
-  module _ {bare : Bool} {m : Decoded} (M : Measured true ty bytes bare m) where
-    pub c_bad : {n d k : ℕ} → m ≡ Decoded.Refused n d k → ChecksKey (check_key_call ty bytes) bytes (CheckedKey.Refused n d k)
-    c_bad y = checked (sym (ap checked_by (refused_is (decoded_top true ty bytes) (measured_is M) y)))
+  module _ {bare : Bool} where
+    pub c_bad : {f : Refused} → Measured true ty bytes bare (Err f) → ChecksKey (check_key_call ty bytes) bytes (Err f)
+    c_bad M = checked (sym (ap checked_by (refused_is _ (decoded_top true ty bytes) (measured_is M))))
 
-    pub c_good : {w p k : ℕ} → m ≡ Decoded.Done w p k → ChecksKey (check_key_call ty bytes) bytes (CheckedKey.Accepted k)
-    c_good y = checked (accepted_is (decoded_top true ty bytes) (measured_is M) y)
+    pub c_good : {s : Decoded} → Measured true ty bytes bare (Ok s) → ChecksKey (check_key_call ty bytes) bytes (Ok s.begun)
+    c_good M = checked (accepted_is (decoded_top true ty bytes) (measured_is M))

@@ -1,13 +1,15 @@
 -- The type at the top, and measuring a whole value under it.
-use mathlib.Core.Path.{◌≡◌, refl, sym, ◌∙◌}
+use mathlib.Core.Path.{◌≡◌, refl, sym, ap, ◌∙◌}
 use mathlib.Core.Bool.{Bool, true, false}
 use mathlib.Core.Option.{some}
-use mathlib.Core.List.{List}
+use mathlib.Core.List.{List, []}
 use Prim.Native.Nat.{ℕ, ◌≤◌, ◌<◌}
 use native.Mathlib.Omega.{arith}
 use borrow.Author.Tests.{eq-eqb, ne_eqb, eqb-true}
 use lib.Dec.{eqb}
 use lib.ListN.{length, get_or}
+use Rattle.std.specs.Prelude.{Result, Ok, Err}
+use Rattle.format.specs.declared.refusal.Refusal.TheVariants as made
 use Rattle.format.specs.Tree.{Ty}
 use Rattle.format.specs.Sheet.{ty_words}
 use Rattle.format.specs.TypeSheet.{max_groups, nesting, type_of, is_some}
@@ -18,12 +20,11 @@ use Rattle.format.proofs.TypePlaces.{TypeIn, top, ty_kind, kind_is}
 use Rattle.format.proofs.TypeKinds.{of_type, kind_here, no_record}
 use Rattle.format.proofs.FitLaws.{typed}
 use Rattle.format.proofs.Tests.{Test, holds, fails, eqb_test}
-use Rattle.read.specs.Walk.{TypeAt, val_sizes, ValueWalk, BareWalk, read_bare}
+use Rattle.read.specs.Walk.{TypeAt, val_sizes, ValueWalk, BareWalk, read_bare, bad}
 use Rattle.read.specs.declared.Walked.{Walked}
-use Rattle.read.specs.declared.Walked.TheVariants.{Good, Bad}
+use Rattle.read.specs.declared.Refused.{Refused}
 use Rattle.read.proofs.AnswerLaws.{Says, good_says, bad_says}
 use Rattle.read.proofs.FieldLaws.{gone}
-use Rattle.decode.specs.declared.Decoded.{Decoded}
 use Rattle.decode.specs.Answers.{is_bare, read_top, Top, TopIs, TopWalk, Measures}
 
 -- ---- bare or not
@@ -34,12 +35,9 @@ top_in g = (kind_here g.t g.here).0
 pub typed_top : {key : Bool} {ty : List ℕ} → key ≡ false → TopIs key ty false
 typed_top e = record { is = λ t l s. rw e }
 
-module _ {key : Bool} {ty : List ℕ} (k : key ≡ true) where
-  pub record_top : get_or ty 0 0 ≡ 5 → TopIs key ty true
-  record_top q = record { is = λ t l s. rw (k, eq-eqb (ty_kind t) 5 (sym (kind_is ty 0 l t s).1 ∙ q)) }
-
-  pub other_top : (get_or ty 0 0 ≡ 5 → ⊥) → TopIs key ty false
-  other_top q = record { is = λ t l s. rw (k, ne_eqb (ty_kind t) 5 (λ y. q ((kind_is ty 0 l t s).1 ∙ y))) }
+-- a key's type has its kind as the first word
+pub key_top : {key : Bool} {ty : List ℕ} → key ≡ true → TopIs key ty (eqb (get_or ty 0 0) 5)
+key_top {ty = ty} k = record { is = λ t l s. rw k (ap (λ (x : ℕ). eqb x 5) (sym (kind_is ty 0 l t s).1)) }
 
 -- where the fields are bare the type is a record
 bare_kind : (key : Bool) (t : Ty) → is_bare key t ≡ true → ty_kind t ≡ 5
@@ -76,30 +74,30 @@ type_at ty h = let s = its_type ty h in record { t = s.t; end = length ty; here 
 
 -- ---- walking and measuring
 
-module _ {ty bytes : List ℕ} {bare : Bool} {r : Walked} where
+module _ {ty bytes : List ℕ} {bare : Bool} {r : Result Walked Refused} where
   pub walked_bare : bare ≡ true → BareWalk ty bytes r → TopWalk bare ty bytes r
   walked_bare e w = rw e (record { walk = w.walk })
 
   pub walked_value : bare ≡ false → ValueWalk ty 0 bytes 0 0 false r → TopWalk bare ty bytes r
   walked_value e w = rw e (record { walk = w.walk })
 
-  module _ (w : TopWalk bare ty bytes r) where
-    pub m_bad : {s : Decoded} {n d k : ℕ} → r ≡ Bad n d k → s ≡ Decoded.Refused n d k → Measures bare ty bytes s
+module _ {ty bytes : List ℕ} {bare : Bool} where
+  pub m_bad : {f : Refused} → TopWalk bare ty bytes (Err f) → Measures bare ty bytes (Err f)
+  unfolding format.whole
+  m_bad w = record { is = λ t l h deep. rw (bad_says (w.walk t l h deep)).0 }
+
+  module _ {x : Walked} (w : TopWalk bare ty bytes (Ok x)) where
+    said : (t : Ty) (l : ℕ) → TypeIn ty 0 t l → nesting t ≤ max_groups → Says val_sizes bytes 0 false l (length (ty_words t)) (read_top bare t bytes) x
+    said t l h deep = good_says (w.walk t l h deep)
+
+    pub m_left : x.next < length bytes → Measures bare ty bytes (Err (bad (made.UnexpectedMark (get_or bytes x.next 0)) x.begun))
     unfolding format.whole
-    m_bad y e = record { is = λ t l h deep. e ∙ rw (bad_says (w.walk t l h deep) y).0 }
+    m_left inl = record { is = λ t l h deep. rw ((said t l h deep).is, front bytes x.next inl) }
 
-    module _ {at next words pool k : ℕ} (y : r ≡ Good at next words pool k) where
-      said : (t : Ty) (l : ℕ) → TypeIn ty 0 t l → nesting t ≤ max_groups → Says val_sizes bytes 0 false l (length (ty_words t)) (read_top bare t bytes) at next words pool k
-      said t l h deep = good_says (w.walk t l h deep) y
-
-      pub m_left : {s : Decoded} {x : ℕ} → next < length bytes → x ≡ get_or bytes next 0 → s ≡ Decoded.Refused 2 x k → Measures bare ty bytes s
-      unfolding format.whole
-      m_left inl ex e = record { is = λ t l h deep. e ∙ rw ((said t l h deep).is, front bytes next inl, ex) }
-
-      pub m_done : {s : Decoded} → length bytes ≤ next → s ≡ Decoded.Done words pool k → Measures bare ty bytes s
-      unfolding format.whole
-      m_done all e = record {
-        is = λ t l h deep.
-            let f = said t l h deep in
-            e ∙ rw (f.is, gone bytes next all) (λ j. Decoded.Done (f.so.words_are j) (f.so.pool_is j) k);
-      }
+    pub m_done : length bytes ≤ x.next → Measures bare ty bytes (Ok (record { words = x.words; pool = x.pool; begun = x.begun }))
+    unfolding format.whole
+    m_done all = record {
+      is = λ t l h deep.
+          let f = said t l h deep in
+          rw (f.is, gone bytes x.next all) (λ j. format.Decoded.got (record { words = f.so.words_are j; pool = f.so.pool_is j }) [] x.begun);
+    }

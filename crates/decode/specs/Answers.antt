@@ -5,7 +5,7 @@ use Rattle.format.specs.Tree.{Ty, Tys, Val}
 use Rattle.format.specs.Sheet.{ty_words, val_words, val_pool}
 use Rattle.format.specs.TypeSheet.{max_groups, nesting, type_of}
 use Rattle.format.specs.Decode as format
-use Rattle.format.specs.Calls.{Filled, Checked, filled, decoded_by, over}
+use Rattle.format.specs.Calls.{Sizes, Filled, Checked, filled, decoded_by, over}
 use Rattle.format.proofs.TypePlaces.{TypeIn, ty_kind}
 use Rattle.read.specs.Walk.{TypeAt, Walks, val_sizes, read_bare}
 use Rattle.format.specs.Refusals.{number_of, detail_of}
@@ -47,10 +47,15 @@ read_top false t bs = format.decode t 0 bs
 abbrev pub decoded_top : Bool → (ty bytes : List ℕ) → format.Decoded Val
 decoded_top key ty bytes = decoded_by (type_of ty) (λ t. format.whole (read_top (is_bare key t) t bytes))
 
--- the answer says how much room a value takes, or the refusal
-pub data Measured : format.Decoded Val → Result Decoded Refused → Type 0 where
-  fits : {v : Val} {rest : List ℕ} {k : ℕ} → Measured (format.Decoded.got v rest k) (Ok (record { words = length (val_words v); pool = length (val_pool v); begun = k }))
-  refuses : {f : Refused} → Measured (format.Decoded.bad (number_of f.why) (detail_of f.why) f.begun) (Err f)
+-- how much room a value takes, or the refusal
+abbrev pub measured_by : format.Decoded Val → format.Decoded Sizes
+measured_by (format.Decoded.got v rest k) = format.Decoded.got (val_sizes v) [] k
+measured_by (format.Decoded.bad n d k) = format.Decoded.bad n d k
+
+-- an answer that says so
+abbrev pub measure_of : Result Decoded Refused → format.Decoded Sizes
+measure_of (Ok d) = format.Decoded.got (record { words = d.words; pool = d.pool }) [] d.begun
+measure_of (Err f) = format.Decoded.bad (number_of f.why) (detail_of f.why) f.begun
 
 -- whatever type stands at the top, its fields are bare or not
 pub record TopIs (key : Bool) (ty : List ℕ) (bare : Bool) : Type 0 where
@@ -66,7 +71,7 @@ pub record TopWalk (bare : Bool) (ty bytes : List ℕ) (r : Result Walked Refuse
   pub walk : (t : Ty) (e : ℕ) → TypeIn ty 0 t e → nesting t ≤ max_groups → Walks val_sizes bytes 0 false e (length (ty_words t)) r (read_top bare t bytes)
 
 pub record Measures (bare : Bool) (ty bytes : List ℕ) (r : Result Decoded Refused) : Type 0 where
-  pub is : (t : Ty) (e : ℕ) → TypeIn ty 0 t e → nesting t ≤ max_groups → Measured (format.whole (read_top bare t bytes)) r
+  pub is : (t : Ty) (e : ℕ) → TypeIn ty 0 t e → nesting t ≤ max_groups → measure_of r ≡ measured_by (format.whole (read_top bare t bytes))
 
 -- the sheet of what is read whole, over the beginnings of both buffers, where they have room
 pub record TopFilled (bare : Bool) (bytes win pin wout pout : List ℕ) : Type 0 where

@@ -44,20 +44,19 @@ fn measure(ty: &[u32], bytes: &[u8], bare: bool) -> Result<Decoded, Refused>
     requires { Top ty.now bare }
     ensures { Measures bare ty.now bytes.now result }
 {
-    let Walked {
-        at: _,
-        next,
-        words,
-        pool,
-        begun,
-    } = walk(ty, bytes, bare)?;
-    if next < bytes.len() {
+    let walked = walk(ty, bytes, bare)?;
+    let begun = walked.begun;
+    if walked.next < bytes.len() {
         return Err(Refused {
-            why: Refusal::UnexpectedMark(bytes[next]),
+            why: Refusal::UnexpectedMark(bytes[walked.next]),
             begun,
         });
     }
-    Ok(Decoded { words, pool, begun })
+    Ok(Decoded {
+        words: walked.words,
+        pool: walked.pool,
+        begun,
+    })
 }
 
 // Puts the value that the bytes hold whole on the sheet, where it has room.

@@ -2,6 +2,7 @@
 use mathlib.Core.Path.{◌≡◌, refl, sym, ap, ◌∙◌, subst}
 use mathlib.Core.Bool.{Bool, true, false, not}
 use mathlib.Core.List.{List}
+use mathlib.Core.Option.{Option, some, none}
 use Prim.Native.Nat.{ℕ, ◌+◌, ◌≤◌, ◌<◌}
 use native.Mathlib.Omega.{arith}
 use borrow.Author.Tests.{eq-eqb, ne_eqb, eqb-true, eqb-false, not-true, not-false}
@@ -11,10 +12,11 @@ use Rattle.format.specs.Answer.{if, Answer, ok, refused, and_then, BadRecord, Ty
 use Rattle.format.specs.Tree.{Ty, Val, val_kind, fields_in}
 use Rattle.format.specs.Sheet.{field_count, val_count}
 use Rattle.format.specs.TypeSheet as types
-use Rattle.format.specs.TypeSheet.{type_of, is_some}
+use Rattle.format.specs.TypeSheet.{type_of}
 use Rattle.format.specs.ValueSheet as values
 use Rattle.format.specs.ValueSheet.{value_of}
 use Rattle.format.specs.Encode.{val_bytes, vals_bytes, fits, fits_all, of_kind, encode, encode_typed, key_bytes, fine}
+use Rattle.format.specs.Calls.{with_type, with_value}
 use Rattle.format.specs.Fields.{put}
 use Rattle.format.specs.Zeros.{val_zeros}
 use Rattle.format.proofs.TypeLaws as type_laws
@@ -25,21 +27,22 @@ use Rattle.format.proofs.TypeKinds as types_here
 use Rattle.format.proofs.ValueKinds as values_here
 use Rattle.format.proofs.FitLaws.{clash}
 use Rattle.format.proofs.Tests.{eqb_test, passed}
-use Rattle.fit.specs.declared.Fitted.{Fitted}
-use Rattle.fit.specs.declared.Fitted.TheVariants.{Fits, Refused}
+use Rattle.std.specs.Prelude.{Ok, Err}
 use Rattle.fit.specs.Fit as fit
 use Rattle.fit.proofs.Steps as fit_laws
 use Rattle.write.specs.declared.Put.{Put}
 use Rattle.write.specs.Write as write
-use Rattle.encode.specs.Encoded.{size_in, sized, key_of, Sheets, Wrote, PutKey}
+use Rattle.encode.specs.Encoded.{admitted, size_in, sized, key_of, Sheets, Wrote, PutKey}
 
 -- ---- the type and the value of admitted sheets
 
-pub sheets : (ty words pool : List ℕ) (r q : Bool) → r ≡ is_some (type_of ty) → not r ≡ false → q ≡ is_some (value_of words pool) → not q ≡ false → Sheets ty words pool
-sheets ty words pool r q e h g k =
-    let t = type_laws.some_of (type_of ty) (sym e ∙ not-false r h) in
-    let v = type_laws.some_of (value_of words pool) (sym g ∙ not-false q k) in
-    record { t = t.0; v = v.0; is_type = t.1; is_value = v.1 }
+pub sheets : (ty words pool : List ℕ) → fine ≡ admitted ty words pool → Sheets ty words pool
+sheets ty words pool e = go (type_of ty) (value_of words pool) refl refl e
+  where
+    go : (t : Option Ty) (v : Option Val) → type_of ty ≡ t → value_of words pool ≡ v → fine ≡ with_type t (λ u. with_value v (λ w. fine)) → Sheets ty words pool
+    go (some t) (some v) g h k = record { t = t; v = v; is_type = g; is_value = h }
+    go (some t) none g h k = clash (sym k)
+    go none v g h k = clash (sym k)
 
 -- ---- answers
 
@@ -48,9 +51,9 @@ accepted : (a : Answer Unit) (z x : List ℕ) → and_then a (λ u. ok z) ≡ ok
 accepted (ok u) z x e = (refl, cc)
 accepted (refused n d) z x e = clash e
 
-measured : {a : Answer Unit} {asked : Bool} {e f g n : ℕ} (r : Fitted) (bs : List ℕ) → n ≡ length bs → fit.Says a asked e f g n r → size_in r ≡ sized (and_then a (λ u. ok bs))
-measured (Fits at word pool len) bs q s = rw (← s.answer) (ap ok (s.ends.3 ∙ q))
-measured (Refused n d) bs q s = rw (← s.answer)
+measured : {a : Answer Unit} {asked : Bool} {e f g n : ℕ} (r : fit.Outcome) (bs : List ℕ) → n ≡ length bs → fit.Says a asked e f g n r → size_in r ≡ sized (and_then a (λ u. ok bs))
+measured (Ok x) bs q s = rw (← s.answer) (ap ok (s.ends.3 ∙ q))
+measured (Err d) bs q s = rw (← s.answer)
 
 module _ {ty words pool : List ℕ} (s : Sheets ty words pool) where
   value : values.Admitted words pool s.v
@@ -80,7 +83,7 @@ module _ {ty words pool : List ℕ} (s : Sheets ty words pool) where
 
   -- ---- a whole value
 
-  pub whole_measured : {asked : Bool} {r : Fitted} → fit.FitValue ty words pool 0 0 0 0 asked r → size_in r ≡ sized (encode_typed s.t s.v)
+  pub whole_measured : {asked : Bool} {r : fit.Outcome} → fit.FitValue ty words pool 0 0 0 0 asked r → size_in r ≡ sized (encode_typed s.t s.v)
   unfolding encode
   whole_measured {asked} {r} i = measured r (val_bytes 0 s.v) refl (i.says s.t s.v _ _ _ pair)
 
@@ -105,7 +108,7 @@ module _ {ty words pool : List ℕ} (s : Sheets ty words pool) where
     whole_key : key_of ty words pool ≡ encode_typed s.t s.v
     whole_key = key_is_lem ∙ (types_here.no_record s.t (λ z. whole ((type_places.kind_is ty 0 _ s.t pair.type).1 ∙ z))).bytes s.v
 
-    pub key_whole : {asked : Bool} {f : Fitted} → fit.FitValue ty words pool 0 0 0 0 asked f → size_in f ≡ sized (key_of ty words pool)
+    pub key_whole : {asked : Bool} {f : fit.Outcome} → fit.FitValue ty words pool 0 0 0 0 asked f → size_in f ≡ sized (key_of ty words pool)
     key_whole i = whole_measured i ∙ ap sized (sym whole_key)
 
     pub put_whole : {l l' : List ℕ} {p : Put} → write.WroteValue words pool (write.standing 0 0 0 0) 0 l p l' → PutKey ty words pool l p.zeros l'
@@ -153,7 +156,7 @@ module _ {ty words pool : List ℕ} (s : Sheets ty words pool) where
         pub fields_stand : fit.StandingRow ty words pool 2 2 0 (get_or ty 1 0)
         fields_stand = fit_laws.fields_stand stands (kind ∙ sym bare) bare count
 
-        pub key_measured : {asked : Bool} {f : Fitted} → fit.FitFields ty words pool 2 2 0 (get_or ty 1 0) 0 asked f → size_in f ≡ sized (key_of ty words pool)
+        pub key_measured : {asked : Bool} {f : fit.Outcome} → fit.FitFields ty words pool 2 2 0 (get_or ty 1 0) 0 asked f → size_in f ≡ sized (key_of ty words pool)
         unfolding key_bytes
         key_measured {asked} {f} i =
             let d = type.deep in

@@ -1,31 +1,28 @@
 -- From what was measured and written to the call's answer and buffer.
 use mathlib.Core.Path.{◌≡◌, refl, sym, ap, ◌∙◌}
-use mathlib.Core.Bool.{Bool, true, false, not}
 use mathlib.Core.Option.{Option, some, none}
 use mathlib.Core.List.{List}
 use Prim.Native.Nat.{ℕ, ◌^◌, ◌≤◌, ◌<◌}
 use native.Mathlib.Omega.{arith}
 use native.Mathlib.Nat.{zero-add}
-use borrow.Author.Tests.{le-leb, lt-leb, lt-ltb, not-true, not-false}
+use borrow.Author.Tests.{le-leb, lt-leb, lt-ltb}
 use lib.ListN.{length}
-use Rattle.format.specs.Answer.{Answer, ok, refused, BadType, BadValue, NoRoom, KeyTooLong}
+use Rattle.std.specs.Prelude.{Result, Ok, Err}
+use Rattle.format.specs.Answer.{Answer, ok, refused, KeyTooLong}
+use Rattle.format.specs.Refusals.{number_of, detail_of}
+use Rattle.format.specs.declared.refusal.Refusal.{Refusal}
+use Rattle.format.specs.declared.refusal.Refusal.TheVariants as made
 use Rattle.format.specs.Tree.{Ty, Val}
-use Rattle.format.specs.TypeSheet.{type_of, is_some}
+use Rattle.format.specs.TypeSheet.{type_of}
 use Rattle.format.specs.ValueSheet.{value_of}
-use Rattle.format.specs.Encode.{key_bytes, encode_typed, encode_key, max_key_bytes}
+use Rattle.format.specs.Encode.{key_bytes, encode_typed, encode_key, max_key_bytes, fine}
 use Rattle.format.specs.Calls.{Called, with_type, with_value, written, encode_typed_call, encode_key_call, over}
 use Rattle.format.specs.Zeros.{zeros, shown_zeros, encode_typed_zeros, encode_key_zeros}
-use Rattle.format.proofs.TypeLaws.{some_of}
 use Rattle.format.proofs.FitLaws.{clash}
 use Rattle.format.proofs.ZeroLaws.{zeros_escaped}
 use Rattle.encode.specs.declared.Encoded.{Encoded}
-use Rattle.encode.specs.declared.Encoded.TheVariants.{Done, Refused}
-use Rattle.encode.specs.Encoded.{sized, key_of, Sheets, Wrote, Encodes}
+use Rattle.encode.specs.Encoded.{admitted, sized, key_of, Sheets, Wrote, Encodes}
 use Rattle.encode.proofs.Keys.{key_is_lem}
-
-none_of : {A : Type 0} (o : Option A) → is_some o ≡ false → o ≡ none
-none_of (some a) e = absurd (let z : ◌≡◌ {A = ℕ} 0 1 = cc in omega arith)
-none_of none e = refl
 
 -- ---- what was measured
 
@@ -45,7 +42,7 @@ called F ty words pool out = written out (with_type (type_of ty) (λ t. with_val
 abbrev shown : (F : Ty → Val → Answer (List ℕ)) (ty words pool out : List ℕ) → ℕ
 shown F ty words pool out = shown_zeros (called F ty words pool out).answer (value_of words pool)
 
-abbrev Call : (F : Ty → Val → Answer (List ℕ)) (ty words pool out : List ℕ) → Encoded → List ℕ → Type 0
+abbrev Call : (F : Ty → Val → Answer (List ℕ)) (ty words pool out : List ℕ) → Result Encoded Refusal → List ℕ → Type 0
 Call F = Encodes (called F) (shown F)
 
 -- an accepted call's zeros are the pool's: what ZeroLaws says of either encoder
@@ -62,7 +59,7 @@ key_pool = zeros_escaped.key
 
 module _ (F : Ty → Val → Answer (List ℕ)) where
   -- a refused call shows 0
-  turned_down : {ty words pool out : List ℕ} {n d : ℕ} → called F ty words pool out ≡ record { answer = refused n d; buffer = out } → Call F ty words pool out (Refused n d) out
+  turned_down : {ty words pool out : List ℕ} {e : Refusal} → called F ty words pool out ≡ record { answer = refused (number_of e) (detail_of e); buffer = out } → Call F ty words pool out (Err e) out
   turned_down {words = words} {pool} c =
       let a = ap (λ (k : Called ℕ). k.answer) c in
       record {
@@ -72,22 +69,24 @@ module _ (F : Ty → Val → Answer (List ℕ)) where
         of_pool = λ n e. clash (sym a ∙ e);
       }
 
-  module _ (ty words pool out : List ℕ) (r : Bool) (is : r ≡ is_some (type_of ty)) where
-    pub bad_type : not r ≡ true → Call F ty words pool out (Refused BadType 0) out
-    bad_type h = turned_down (rw (none_of (type_of ty) (sym is ∙ not-true r h)))
-
-    pub bad_value : not r ≡ false → (q : Bool) → q ≡ is_some (value_of words pool) → not q ≡ true → Call F ty words pool out (Refused BadValue 0) out
-    bad_value g q e h = turned_down (rw ((some_of (type_of ty) (sym is ∙ not-false r g)).1, none_of (value_of words pool) (sym e ∙ not-true q h)))
+  -- sheets that are not admitted
+  pub bad_sheets : {ty words pool : List ℕ} (out : List ℕ) {e : Refusal} → ◌≡◌ {A = Answer Unit} (refused (number_of e) (detail_of e)) (admitted ty words pool) → Call F ty words pool out (Err e) out
+  bad_sheets {ty} {words} {pool} out h = turned_down (ap (written out) (go (type_of ty) (value_of words pool) h))
+    where
+      go : {n d : ℕ} (t : Option Ty) (v : Option Val) → refused n d ≡ with_type t (λ u. with_value v (λ w. fine)) → with_type t (λ u. with_value v (λ w. F u w)) ≡ refused n d
+      go (some t) (some v) k = clash k
+      go (some t) none k = cc
+      go none v k = cc
 
   module _ {ty words pool : List ℕ} (s : Sheets ty words pool) (out : List ℕ) where
-    pub refuses : (n d : ℕ) → F s.t s.v ≡ refused n d → Call F ty words pool out (Refused n d) out
-    refuses n d e = turned_down (rw (s.is_type, s.is_value, e))
+    pub refuses : {e : Refusal} → F s.t s.v ≡ refused (number_of e) (detail_of e) → Call F ty words pool out (Err e) out
+    refuses e = turned_down (rw (s.is_type, s.is_value, e))
 
     module _ {bs : List ℕ} (is : F s.t s.v ≡ ok bs) {n : ℕ} (long : n ≡ length bs) where
-      pub no_room : length out < n → n < 2 ^ 64 → Call F ty words pool out (Refused NoRoom n) out
+      pub no_room : length out < n → n < 2 ^ 64 → Call F ty words pool out (Err (made.NoRoom n)) out
       no_room h g = turned_down (rw (s.is_type, s.is_value, is, lt-leb (length bs) (length out) (omega arith), lt-ltb (length bs) (2 ^ 64) (omega arith), long))
 
-      pub done : OfPool F → n ≤ length out → {z : ℕ} {l' : List ℕ} → (length bs ≤ length out → Wrote words pool out bs z l') → Call F ty words pool out (Done n z) l'
+      pub done : OfPool F → n ≤ length out → {z : ℕ} {l' : List ℕ} → (length bs ≤ length out → Wrote words pool out bs z l') → Call F ty words pool out (Ok (record { length = n; zeros = z })) l'
       done law h {z} wrote =
           let w = wrote (omega arith) in
           let c : called F ty words pool out ≡ record { answer = ok (length bs); buffer = over bs out } = rw (s.is_type, s.is_value, is, le-leb (length bs) (length out) (omega arith)) in

@@ -9,11 +9,9 @@ use lib.ListN.{length, get_or, drop}
 use borrow.Author.Tests.{ne_eqb, eqb-true, eqb-false, lt-ltb, le-ltb, ltb-true, ltb-false, le-leb, lt-leb, leb-true, leb-false}
 use Rattle.std.specs.List.{slice_get}
 use Rattle.std.proofs.Common.{Some, None}
-use Rattle.format.specs.Answer.{if, Answer, ok, refused, and_then}
-use Rattle.format.specs.Refusals.{number_of, detail_of, answered}
-use Rattle.format.specs.declared.refusal.Refusal.{Refusal}
+use Rattle.format.specs.Answer.{if, ok, refused, and_then}
 use Rattle.format.specs.Read.{Read, then_read, get_uint, starts_ff}
-use Rattle.format.specs.Fields.{Taken, taken_from}
+use Rattle.format.specs.Fields.{taken_from}
 use Rattle.format.specs.Skip.{pass_bytes, pass_field, end_of}
 use Rattle.format.specs.Cursor.{null_at, tag_at, union_mark}
 use Rattle.scalar.specs.Answers.{taken_by}

@@ -1,6 +1,6 @@
 -- Integers and references by their mark alone, runs by where they end: what a turn makes of them. They open and close no group.
 use mathlib.Core.Bool.{Bool, true, false}
-use mathlib.Core.Path.{◌≡◌, refl, ◌∙◌}
+use mathlib.Core.Path.{◌≡◌, ◌∙◌}
 use mathlib.Core.List.{List, [], ◌∷◌}
 use Prim.Native.Nat.{ℕ, suc, ◌+◌, ◌-◌, ◌≤◌, ◌<◌}
 use native.Mathlib.Omega.{arith}
@@ -18,7 +18,7 @@ use Rattle.scalar.proofs.Integers.{big_read}
 use Rattle.scalar.proofs.Measures.{end_none, end_run}
 use Rattle.skip.specs.Tokens.{pass_run, number_mark, run_mark, Runs}
 use Rattle.skip.proofs.Marks.{number_passes, run_passes}
-use Rattle.skip.proofs.Turns.{byte_there, turn_mark}
+use Rattle.skip.proofs.Turns.{turn_mark}
 
 -- ---- numbers
 
@@ -50,9 +50,6 @@ run_there s k z = no_run (rw z at k)
   where
     no_run : false ≡ true → ⊥
     no_run y = let z : ◌≡◌ {A = ℕ} 0 1 = cc in omega arith
-
-pub run_some : (s : List ℕ) → run_mark (get_or s 0 0) ≡ true → 1 ≤ length s
-run_some s k = byte_there s (run_there s k)
 
 module _ (s : List ℕ) (end : ℕ) (q : end ≡ run_end s 1) where
   pub run_ends : end < length s → Runs s (end + 1)

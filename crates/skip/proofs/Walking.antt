@@ -1,12 +1,12 @@
 -- The walk of `skip` as the invariant of its loops says it: what is left of the walk at a place, and what each turn makes of it.
 use mathlib.Core.Bool.{Bool, true, false, not}
-use mathlib.Core.Path.{◌≡◌, refl, sym, ap, ◌∙◌}
+use mathlib.Core.Path.{◌≡◌, sym, ap, ◌∙◌}
 use mathlib.Core.List.{List, []}
 use Prim.Native.Nat.{ℕ, ◌+◌, ◌-◌, ◌^◌, ◌≤◌, ◌<◌}
 use native.Mathlib.Omega.{arith}
 use lib.ListN.{length, get_or, take, drop, length-drop, drop_of_length-le}
 use lib.Seq.{drop-drop}
-use borrow.Author.Tests.{eq-eqb, ne_eqb, ltb-false, not-false}
+use borrow.Author.Tests.{eq-eqb, ne_eqb, not-false}
 use Rattle.format.specs.Answer.{ok, refused}
 use Rattle.format.specs.Read.{Read, then_read}
 use Rattle.format.specs.Fields.{taken_from}
@@ -16,17 +16,14 @@ use Rattle.format.proofs.SkipLaws.{ended, walk_from, walk_step, skip_walk}
 use Rattle.scalar.specs.Numbers.{unjudged}
 use Rattle.scalar.proofs.Parts.{part_rest}
 use Rattle.scalar.proofs.Reading.{Took}
-use Rattle.skip.specs.Tokens.{field, pass_run, run_mark, Runs, Left}
-use Rattle.skip.proofs.Turns.{Ending, Opening, ends_open, opens_low, turn_took, turn_refuses, turn_closes, turn_opens}
+use Rattle.skip.specs.Tokens.{field, pass_run, run_mark, Runs}
+use Rattle.skip.proofs.Turns.{Ending, Opening, turn_took, turn_refuses, turn_closes, turn_opens}
 use Rattle.skip.proofs.Plain.{number_took, run_took, run_refused}
 
 -- at place i, in d open groups, what is left of the walk is the walk from the start
 pub record Walk (escape : Bool) (b : List ℕ) (start i d : ℕ) : Type 0 where
   pub inside : i ≤ length b
   pub goes : walk_from escape d (drop i b) ≡ walk_from escape 0 (drop start b)
-
-pub walk_start : (escape : Bool) (b : List ℕ) (start : ℕ) → start ≤ length b → Walk escape b start start 0
-walk_start escape b start h = record { inside = h; goes = refl }
 
 by_walk : (escape : Bool) (b : List ℕ) (start : ℕ) → skip_call b start escape ≡ end_of b (walk_from escape 0 (drop start b))
 unfolding skip_call skip_from
@@ -40,21 +37,9 @@ walk_past escape b start h =
     let none : drop start b ≡ [] = drop_of_length-le b past in
     rw (by_walk escape b start, none, walk_step escape 0 [])
 
--- ---- what the tests say of the depth and of what is left
-
-module _ (d : ℕ) (s : List ℕ) {q : Bool} where
-  pub opens_deep : q ≡ Opening d s → q ≡ true → d + 1 < 2 ^ 32
-  opens_deep p h = omega (arith, opens_low d s (sym p ∙ h))
-
-  pub left : {r : ℕ} → r ≡ unjudged s → r ≡ 0 → {o : Bool} → o ≡ Opening d s → o ≡ false → q ≡ run_mark (get_or s 0 0) → q ≡ false → Left d s
-  left e z u f p h = record { short = sym e ∙ z; runless = sym p ∙ h; deep = λ m. ltb-false d 256 (rw (eq-eqb _ _ m) at (sym u ∙ f)) }
-
 -- a group ends at the place
 pub record EndsAt (b : List ℕ) (i d : ℕ) : Type 0 where
   pub here : Ending d (drop i b) ≡ true
-
-pub ends_deep : {b : List ℕ} {i d : ℕ} → EndsAt b i d → 1 ≤ d
-ends_deep {b} {i} {d} e = omega (arith, ends_open d (drop i b) e.here)
 
 -- the rest of the key, as a callee sees it
 abbrev Rest : List ℕ → ℕ → List ℕ
@@ -121,12 +106,6 @@ module _ {escape : Bool} {b : List ℕ} {start i d : ℕ} (w : Walk escape b sta
     opens : Opening d (drop i b) ≡ true
     opens = sym (rw (part_rest i b) at p) ∙ h
 
-    pub opens_room : length b < 2 ^ 64 → i + 1 < 2 ^ 64
-    opens_room k = room (turn_opens escape d (drop i b) opens) k
-
-    pub opens_less : (from : ℕ) → from ≤ i → length b - (i + 1) < length b - from
-    opens_less from h = less (turn_opens escape d (drop i b) opens) from h
-
     pub opens_on : Walk escape b start (i + 1) (d + 1)
     opens_on = walk_on (turn_opens escape d (drop i b) opens) (λ z. omega arith)
 
@@ -135,9 +114,6 @@ module _ {escape : Bool} {b : List ℕ} {start i d : ℕ} (w : Walk escape b sta
   module _ (e : EndsAt b i d) where
     pub ends_inside : i + 1 ≤ length b
     ends_inside = within (turn_closes escape d (drop i b) e.here)
-
-    pub ends_room : length b < 2 ^ 64 → i + 1 < 2 ^ 64
-    ends_room h = room (turn_closes escape d (drop i b) e.here) h
 
     pub ends_less : (from : ℕ) → from ≤ i → length b - (i + 1) < length b - from
     ends_less from h = less (turn_closes escape d (drop i b) e.here) from h
@@ -161,12 +137,6 @@ module _ {escape : Bool} {b : List ℕ} {start i d : ℕ} (w : Walk escape b sta
       run_turn : Took (drop i b) (turn escape d (drop i b)) d r
       run_turn = run_took escape d (drop i b) starts (rw (part_rest i b) at e)
 
-      pub run_room : length b < 2 ^ 64 → i + r < 2 ^ 64
-      run_room h = room run_turn h
-
-      pub run_less : (from : ℕ) → from ≤ i → length b - (i + r) < length b - from
-      run_less from h = less run_turn from h
-
       pub run_on : (d ≡ 0 → ⊥) → Walk escape b start (i + r) d
       run_on h = walk_on run_turn h
 
@@ -185,9 +155,6 @@ module _ {escape : Bool} {b : List ℕ} {start i d : ℕ} (w : Walk escape b sta
     module _ {o n : ℕ} (a : ok (record { value = o; used = n }) ≡ taken_from (Rest b i) (field escape d (Rest b i))) where
       left_turn : Took (drop i b) (turn escape d (drop i b)) o n
       left_turn = turn_took escape d (drop i b) open_still (rw (part_rest i b) at a)
-
-      pub left_room : length b < 2 ^ 64 → i + n < 2 ^ 64
-      left_room h = room left_turn h
 
       pub left_less : (from : ℕ) → from ≤ i → length b - (i + n) < length b - from
       left_less from h = less left_turn from h

@@ -1,6 +1,6 @@
 -- What the answers mean, by cases, and the parts of a turn that have a function each.
 use Rattle.std.specs.Prelude.{Bool, false, ◌||◌, List, [], ◌∷◌, ◌≡◌, ℕ, ◌≤◌, ◌<◌, leb, eqb, length, get_or, drop, Result, Option, Some, None}
-use Rattle.format.specs.Answer.{if, Answer, ok, refused, and_then, UnexpectedEof}
+use Rattle.format.specs.Answer.{if, Answer, ok, and_then, UnexpectedEof}
 use Rattle.format.specs.Refusals.{answered_by}
 use Rattle.format.specs.declared.refusal.Refusal.{Refusal}
 use Rattle.format.specs.Encode.{max_depth}

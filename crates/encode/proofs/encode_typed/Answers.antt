@@ -1,54 +1,41 @@
 -- The sheets are judged, then the value is measured, then written: each way out is a law of `Outcomes` about a call with the encoder `encode_typed`.
-use mathlib.Core.Bool.{not}
-use mathlib.Core.Path.{ap}
 use native.Mathlib.Omega.{arith}
+use Rattle.std.proofs.lemmas.Result.{err_from_is_err_and}
 use Rattle.format.specs.Encode.{encode_typed}
 use Rattle.format.specs.Calls.{encode_typed_call}
 use Rattle.format.specs.Zeros.{encode_typed_zeros}
 use Rattle.fit.proofs.Steps.{value_short}
-use Rattle.encode.specs.Encoded.{Sheets}
 use Rattle.encode.proofs.Keys.{sheets, stands, whole_measured, whole_written}
-use Rattle.encode.proofs.Outcomes.{said_no, said_ok, typed_pool, bad_type, bad_value, refuses, no_room, done}
+use Rattle.encode.proofs.Outcomes.{said_no, said_ok, typed_pool, bad_sheets, refuses, no_room, done}
 use Rattle.encode.proofs.encode_typed.Goals as goal
 
-pub returns-then-not-admit_type : goal.returns-then-not-admit_type
+pub returns-in_err-admit : goal.returns-in_err-admit
 unfolding encode_typed_call encode_typed_zeros
-returns-then-not-admit_type c =
-    let a = c.args in
-    bad_type encode_typed a.ty.now a.words.now a.pool.now a.out.now _ c.admit_type.ensures (ap not c.if-not-admit_type.true)
-
-pub returns-then-not-admit_value : goal.returns-then-not-admit_value
-unfolding encode_typed_call encode_typed_zeros
-returns-then-not-admit_value c =
-    let a = c.args in
-    bad_value encode_typed a.ty.now a.words.now a.pool.now a.out.now _ c.admit_type.ensures (ap not c.if-not-admit_type.false) _ c.admit_value.ensures (ap not c.if-not-admit_value.true)
+returns-in_err-admit c =
+    let p = err_from_is_err_and c.from_residual.result c.from_residual.ensures.1 in
+    rw (p.1, p.2) (bad_sheets encode_typed c.args.out.now c.in_err-admit.ensures)
 
 pub fit_value-requires : goal.fit_value-requires
-fit_value-requires c =
-    let a = c.args in
-    let s : Sheets a.ty.now a.words.now a.pool.now = search sheets in
-    stands s
+fit_value-requires c = stands (sheets _ _ _ c.in_ok-admit.ensures)
 
-pub returns-then-out-n : goal.returns-then-out-n
+pub returns-in_err-length : goal.returns-in_err-length
 unfolding encode_typed_call encode_typed_zeros
-returns-then-out-n c =
-    let a = c.args in
-    let s : Sheets a.ty.now a.words.now a.pool.now = search sheets in
-    let b = said_ok _ (whole_measured s c.in-Fits.ensures) in
-    let short = value_short (stands s) c.in-Fits.ensures in
-    no_room encode_typed s _ b.1 b.2 c.if-out-n.true (omega arith)
+returns-in_err-length c =
+    let s = sheets _ _ _ c.in_ok-admit.ensures in
+    let p = err_from_is_err_and c.from_residual-in_err-length.result c.from_residual-in_err-length.ensures.1 in
+    rw (p.1, p.2) (refuses encode_typed s _ (said_no _ (whole_measured s c.in_err-length.ensures)))
 
-pub returns-in-Refused : goal.returns-in-Refused
+pub returns-then-out-length : goal.returns-then-out-length
 unfolding encode_typed_call encode_typed_zeros
-returns-in-Refused c =
-    let a = c.args in
-    let s : Sheets a.ty.now a.words.now a.pool.now = search sheets in
-    refuses encode_typed s _ _ _ (said_no _ (whole_measured s c.in-Refused.ensures))
+returns-then-out-length c =
+    let s = sheets _ _ _ c.in_ok-admit.ensures in
+    let b = said_ok _ (whole_measured s c.in_ok-length.ensures) in
+    let short = value_short (stands s) c.in_ok-length.ensures in
+    no_room encode_typed s _ b.1 b.2 c.if-out-length.true (omega arith)
 
-pub returns-else-out-n : goal.returns-else-out-n
+pub returns : goal.returns
 unfolding encode_typed_call encode_typed_zeros
-returns-else-out-n c =
-    let a = c.args in
-    let s : Sheets a.ty.now a.words.now a.pool.now = search sheets in
-    let b = said_ok _ (whole_measured s c.in-Fits.ensures) in
-    done encode_typed s _ b.1 b.2 typed_pool c.if-out-n.false (whole_written s c.put_value-put.ensures b.0 b.1)
+returns c =
+    let s = sheets _ _ _ c.in_ok-admit.ensures in
+    let b = said_ok _ (whole_measured s c.in_ok-length.ensures) in
+    done encode_typed s _ b.1 b.2 typed_pool c.if-out-length.false (whole_written s c.put_value-put.ensures b.0 b.1)

@@ -24,11 +24,11 @@ bounds-ty-1 c = omega (arith, type_second c.requires c.top_bare.ensures (ap not 
 pub bounds-words-1 : goal.bounds-words-1
 bounds-words-1 c = omega (arith, value_second c.requires c.top_bare.ensures (ap not c.if-not-top_bare.false) c.if-words-ne-VALUE_RECORD.false)
 
-pub returns-then-words-wide_word : goal.returns-then-words-wide_word
-returns-then-words-wide_word c = search key_count
+pub returns-then-words-from : goal.returns-then-words-from
+returns-then-words-from c = search key_count
 
 pub fit_fields-requires : goal.fit_fields-requires
-fit_fields-requires c = fields_stand c.requires c.top_bare.ensures (ap not c.if-not-top_bare.false) c.if-words-ne-VALUE_RECORD.false _ c.wide_word.ensures c.if-words-wide_word.false
+fit_fields-requires c = fields_stand c.requires c.top_bare.ensures (ap not c.if-not-top_bare.false) c.if-words-ne-VALUE_RECORD.false _ c.from.ensures c.if-words-from.false
 
 pub returns : goal.returns
 returns c = search key_measured

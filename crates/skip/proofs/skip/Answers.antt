@@ -1,6 +1,6 @@
 -- Each turn leaves what is left of the walk, or ends it: one lemma of `Walking` for each way through a turn.
 use mathlib.Core.Bool.{not}
-use mathlib.Core.Path.{sym, ap, ◌∙◌}
+use mathlib.Core.Path.{ap}
 use native.Mathlib.Omega.{arith}
 use Rattle.std.proofs.lemmas.Result.{err_from_is_err_and}
 use Rattle.skip.proofs.Walking as laws
