@@ -24,8 +24,9 @@ loop-x-preserved c =
     let e = c.find-tab.ensures in
     let f = rw (← c.unwrap_or-end.ensures) at e.found in
     let tab = c.is_none.ensures ∙ ap not c.if-is_none.false in
+    let more = text.before_end {s = c.args.text.now} {at = c.loop-x.start} {b = 9} {o = c.find-tab.result} e tab in
     let word = rw c.in_ok-x.ensures.ok_part at c.type_word.ensures in (
-      laws.words_next c.loop-x.invariant.0 f word c.keep_word.ensures (rw (← c.unwrap_or-end.ensures) at text.before_end {s = c.args.text.now} {at = c.loop-x.start} {b = 9} {o = c.find-tab.result} e tab),
+      laws.words_next c.loop-x.invariant.0 f word c.keep_word.ensures (rw (← c.unwrap_or-end.ensures) at more),
       ap length c.keep_word.ensures ∙ simp length-set c.loop-x.invariant.1,
     )
 
