@@ -1,12 +1,13 @@
 -- Laws of runs: one for each way out of the function that fills them.
 use Rattle.std.proofs.Common.{◌≡◌, ℕ, ◌+◌, ◌-◌, ◌<◌, ◌≤◌, false, List, [], ◌∷◌, ◌++◌, length, get_or, take, drop, sym, refl, ap, ◌∙◌, arith, length-drop, drop-drop}
+use Rattle.std.specs.Prelude.{Option, Some, None}
 use Rattle.format.specs.Scalar.{escaped}
 use Rattle.format.specs.Read.{Read, get_run, starts_ff}
 use Rattle.format.specs.Fields.{put}
 use Rattle.format.proofs.ReadLaws.{get_run_escaped}
 use Rattle.blocks.proofs.Put.{length_put}
 use Rattle.scalar.specs.Runs.{measured, unescape}
-use Rattle.scalar.specs.declared.runs.Measure.{Measure}
+use Rattle.scalar.specs.declared.runs.Run.{Run}
 use Rattle.scalar.proofs.Parts.{part_rest}
 use Rattle.scalar.proofs.Measures.{Measured, measured_run, measured_none}
 use Rattle.fill.proofs.PlaceLaws.{second_put}
@@ -15,19 +16,19 @@ use Rattle.fill.specs.declared.Filled.{Filled}
 use Rattle.fill.specs.Fill.{Lent, lent, RunFilled}
 
 -- a run measured behind the mark at i: it ends e bytes on, and its payload has n
-module _ (bytes : List ℕ) (i : ℕ) {m : Measure} (q : m ≡ measured (take (length bytes - (i + 1)) (drop (i + 1) bytes))) where
+module _ (bytes : List ℕ) (i : ℕ) {m : Option Run} (q : m ≡ measured (take (length bytes - (i + 1)) (drop (i + 1) bytes))) where
   its : measured (drop (i + 1) bytes) ≡ m
   its = sym (q ∙ ap measured (part_rest (i + 1) bytes))
 
-  unended : m ≡ Measure.Unended → (x rest : List ℕ) → starts_ff rest ≡ false → drop (i + 1) bytes ≡ escaped x ++ rest → ⊥
+  unended : m ≡ None → (x rest : List ℕ) → starts_ff rest ≡ false → drop (i + 1) bytes ≡ escaped x ++ rest → ⊥
   unended y x rest f e =
       let b : Read.bad 1 0 ≡ Read.got x rest = sym (measured_none (drop (i + 1) bytes) (its ∙ y)) ∙ ap get_run e ∙ get_run_escaped x rest f in
       let z : ◌≡◌ {A = ℕ} 0 1 = cc in
       omega arith
 
-  module _ {e n : ℕ} (y : m ≡ Measure.Run e n) where
+  module _ {e n : ℕ} (y : m ≡ Some (record { end = e; len = n })) where
     its_run : Measured (drop (i + 1) bytes) e n
-    its_run = measured_run (drop (i + 1) bytes) e n (its ∙ y)
+    its_run = measured_run (drop (i + 1) bytes) (record { end = e; len = n }) (its ∙ y)
 
     pub run_in : i + 1 + e < length bytes
     run_in = omega (arith, its_run.inside, length-drop (i + 1) bytes)
@@ -62,11 +63,11 @@ module _ {bytes : List ℕ} {s : Filled} {a : Lent} {kind : ℕ} (h : s.next < l
         right = λ x rest f e l. absurd (never x rest f e l);
       }
 
-  module _ {m : Measure} (q : m ≡ measured (take (length bytes - (s.next + 1)) (drop (s.next + 1) bytes))) where
-    pub run_not : {wout : List ℕ} → m ≡ Measure.Unended → wout ≡ put a.words s.words (kind ∷ 0 ∷ []) → RunFilled kind bytes s a (length bytes) (lent wout a.pool)
+  module _ {m : Option Run} (q : m ≡ measured (take (length bytes - (s.next + 1)) (drop (s.next + 1) bytes))) where
+    pub run_not : {wout : List ℕ} → m ≡ None → wout ≡ put a.words s.words (kind ∷ 0 ∷ []) → RunFilled kind bytes s a (length bytes) (lent wout a.pool)
     run_not y ew = none_filled ew (λ x rest f e l. unended bytes s.next q y x rest f e)
 
-    module _ {e n : ℕ} (y : m ≡ Measure.Run e n) where
+    module _ {e n : ℕ} (y : m ≡ Some (record { end = e; len = n })) where
       pub run_short : {wout : List ℕ} → length a.pool - s.pool < n → wout ≡ put a.words s.words (kind ∷ 0 ∷ []) → RunFilled kind bytes s a (length bytes) (lent wout a.pool)
       run_short l ew =
           none_filled ew (λ x rest f d fit. omega (arith, (its_run bytes s.next q y).long, ap length (read_run bytes s.next q y x rest f d).0))

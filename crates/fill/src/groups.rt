@@ -20,10 +20,7 @@ fn behind(bytes: &[u8], i: usize) -> usize
 fn opens_group(mark: u8) -> bool
     ensures { result ≡ opens mark }
 {
-    if mark == format::MARK_RECORD {
-        return true;
-    }
-    mark == format::MARK_UNION
+    mark == format::MARK_RECORD || mark == format::MARK_UNION
 }
 
 // Do the fields end here: at the end of the key, or inside a group at its end?
@@ -62,9 +59,8 @@ fn fill_group(
         put_pair(words, w, format::VALUE_RECORD, r.count);
         return Filled {
             next: behind(bytes, r.next),
-            words: r.words,
-            pool: r.pool,
             count: 0,
+            ..r
         };
     }
     if bytes.len() <= j {
@@ -79,9 +75,8 @@ fn fill_group(
     let r = fill_fields(bytes, payload, words, inner, pool, p, inside);
     Filled {
         next: behind(bytes, r.next),
-        words: r.words,
-        pool: r.pool,
         count: 0,
+        ..r
     }
 }
 

@@ -138,14 +138,14 @@ fn fill_run(
             put_pair(words, w, kind, 0);
             bytes.len()
         }
-        Some(Run { end: e, len }) => {
-            if pool.len() - p < len {
+        Some(run) => {
+            if pool.len() - p < run.len {
                 put_pair(words, w, kind, 0);
                 return bytes.len();
             }
-            let end = j + e;
-            put_pair(words, w, kind, len as u64);
-            scalar::runs::payload_into(&bytes[j..end], pool, p, len);
+            let end = j + run.end;
+            put_pair(words, w, kind, run.len as u64);
+            scalar::runs::payload_into(&bytes[j..end], pool, p, run.len);
             end + 1
         }
     }
@@ -163,28 +163,21 @@ pub fn fill_leaf(
     requires { (i < length bytes.now) × (w + 2 ≤ length words.old) × (p ≤ length pool.old) × (0 < slice_index bytes.now i) × (opens (slice_index bytes.now i) ≡ false) }
     ensures { LeafFilled bytes.now (standing i w p 0) (lent words.old pool.old) result (lent words.new pool.new) }
 {
-    let mark = bytes[i];
-    if mark == format::MARK_STRING {
-        return fill_run(bytes, i, words, w, pool, p, format::VALUE_STR);
+    match bytes[i] {
+        format::MARK_STRING => fill_run(bytes, i, words, w, pool, p, format::VALUE_STR),
+        format::MARK_BYTES => fill_run(bytes, i, words, w, pool, p, format::VALUE_BYTES),
+        format::MARK_FACT_REF => fill_ref(bytes, i, words, w),
+        _ => fill_int(bytes, i, words, w),
     }
-    if mark == format::MARK_BYTES {
-        return fill_run(bytes, i, words, w, pool, p, format::VALUE_BYTES);
-    }
-    if mark == format::MARK_FACT_REF {
-        return fill_ref(bytes, i, words, w);
-    }
-    fill_int(bytes, i, words, w)
 }
 
 // How many bytes of the pool a value with that mark took, by its second word. So a leaf's answer is one place, which comes back in a register.
 pub fn pool_taken(mark: u8, x: u64) -> usize
     ensures { result ≡ taken mark x }
 {
-    if mark == format::MARK_STRING {
-        return x as usize;
+    match mark {
+        format::MARK_STRING => x as usize,
+        format::MARK_BYTES => x as usize,
+        _ => 0,
     }
-    if mark == format::MARK_BYTES {
-        return x as usize;
-    }
-    0
 }

@@ -11,7 +11,6 @@ use Rattle.std.specs.Prelude.{Result, Ok, Err}
 use Rattle.format.specs.Answer.{if, Answer, ok, refused, and_then, KeyTooLong}
 use Rattle.format.specs.Tree.{Ty, Tys, Val, Vals, fields_in}
 use Rattle.format.specs.Sheet.{field_count}
-use Rattle.format.specs.TypeSheet as type_sheets
 use Rattle.format.specs.TypeSheet.{type_of, is_some, max_groups, nesting, nestings}
 use Rattle.format.specs.ValueSheet.{value_of}
 use Rattle.format.specs.Encode.{vals_bytes, encode, max_key_bytes}

@@ -8,7 +8,7 @@ use lib.Dec.{leb}
 use lib.ListN.{length, take, drop}
 use lib.Seq.{slice, length-take-le}
 use Rattle.std.specs.Prelude.{Ok, Err}
-use Rattle.format.specs.Answer.{Answer, ok, refused, no_room}
+use Rattle.format.specs.Answer.{Answer, ok, no_room}
 use Rattle.format.specs.Bounds.{above_field}
 use Rattle.format.specs.Calls.{over, Bounded, bounded, above_field_call}
 use Rattle.format.specs.Refusals.{answered, Leaves}

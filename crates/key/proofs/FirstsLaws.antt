@@ -22,7 +22,7 @@ use Rattle.format.specs.Encode.{vals_bytes, fits_all, fine}
 use Rattle.format.specs.Calls.{over}
 use Rattle.format.specs.Fields.{put}
 use Rattle.format.specs.Spans.{first_tys, field_type, with_record, with_next}
-use Rattle.format.proofs.Tests.{eqb_test, eqb_yes, eqb_no, Test, holds, fails}
+use Rattle.format.proofs.Tests.{eqb_test, Test, holds, fails}
 use Rattle.format.proofs.KindLaws.{is_record_lem}
 use Rattle.format.proofs.TypeLaws as types
 use Rattle.format.proofs.TypePlaces as type_places
@@ -39,7 +39,7 @@ use Rattle.key.specs.Records.{is_record, FirstWords, has_next}
 use Rattle.key.specs.Firsts.{Firsts}
 use Rattle.key.proofs.SpanLaws.{place_at, spans, first_nest, next_span}
 use Rattle.key.proofs.CallLaws.{some_words, another, record_type, count_word}
-use Rattle.key.proofs.ValueLaws.{no_value, its_value, it_is, it_stands}
+use Rattle.key.proofs.ValueLaws.{its_value, it_is, it_stands}
 
 -- what is put at a buffer's beginning stands over it
 pub put_over : (out x : List ℕ) → put out 0 x ≡ over x out

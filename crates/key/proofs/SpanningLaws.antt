@@ -16,11 +16,11 @@ use Rattle.format.specs.Sheet.{field_count, val_count, ty_words}
 use Rattle.format.specs.TypeSheet.{type_of, is_some}
 use Rattle.format.specs.ValueSheet as value_sheets
 use Rattle.format.specs.ValueSheet.{value_of}
-use Rattle.format.specs.Encode.{val_bytes, vals_bytes, fits, fits_all, fine}
+use Rattle.format.specs.Encode.{val_bytes, vals_bytes, fits, fine}
 use Rattle.format.specs.Bounds.{above_field}
 use Rattle.format.specs.Calls as calls
 use Rattle.format.specs.Calls.{TwoEnds}
-use Rattle.format.specs.Spans.{first_tys, field_type, with_next, span_ends, span_of, span_for, span_call}
+use Rattle.format.specs.Spans.{first_tys, field_type, span_ends, span_of, span_for, span_call}
 use Rattle.format.proofs.Tests.{ltb_yes, ltb_no}
 use Rattle.format.proofs.ValueLaws as values
 use Rattle.format.proofs.ValuePlaces as value_places

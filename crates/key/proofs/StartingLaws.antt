@@ -42,7 +42,7 @@ use Rattle.fit.specs.Fit.{FitFields}
 use Rattle.write.specs.declared.Put.{Put}
 use Rattle.write.specs.Write.{standing, WroteFields}
 use Rattle.key.specs.declared.bounding.Ends.{Ends}
-use Rattle.key.specs.Keys.{bounded_of, BoundsLeft}
+use Rattle.key.specs.Keys.{BoundsLeft}
 use Rattle.key.specs.Records.{is_record, has_next}
 use Rattle.key.specs.Firsts.{Firsts}
 use Rattle.key.specs.Starting.{mark_in, kind_mark, MarksRun, AskedStart, NextSays, FirstFit, PutsStart, PutsStarts}
@@ -297,12 +297,6 @@ module _ (words pool : List ℕ) (n mark : ℕ) (s lower upper : List ℕ) (smal
       -- so the upper end's length is no sum that is too large
       pub p_short : (trims : ℕ) → trims ≡ length (trimmed (run_start s)) → length lower < 2 ^ 64 → n + 1 + trims < 2 ^ 64
       p_short trims e l = omega (arith, fits_low, trim_short (run_start s))
-
-      pub p_room : n + 1 + length (run_start s) ≤ length lower
-      p_room = omega (arith, fits_low)
-
-      pub p_end : end ≤ length lower
-      p_end = omega (arith, fits_low)
 
       module _ {trims : ℕ} (trims_is : trims ≡ length (trimmed (run_start s))) where
         -- no room for the upper end

@@ -66,9 +66,6 @@ module _ (words pool : List ℕ) {b : Bool} (said : b ≡ is_some (value_of word
       omega (arith, q.1, q.3, q.4, its.1.long, its.1.large)
 
 module _ (ty : List ℕ) (at : ℕ) (buffer : List ℕ) (used start end : ℕ) (words pool : List ℕ) {b : Bool} (said : b ≡ is_some (value_of words pool)) where
-  pub v_bad : b ≡ false → ValueStands ty at buffer used start end words pool (Err made.BadValue) buffer
-  v_bad h = record { stands = λ t e i d. rw (no_value words pool (sym said ∙ h)) (record { answer = refl; left = refl }) }
-
   module _ (yes : b ≡ true) where
     abbrev the_value : Val
     the_value = its_value words pool said yes

@@ -5,8 +5,8 @@ use Rattle.format.specs.Answer.{ok, refused, shown}
 use Rattle.format.specs.Refusals.{Leaves, number_of, detail_of}
 use Rattle.format.specs.declared.refusal.Refusal.{Refusal}
 use Rattle.format.specs.declared.refusal.Refusal.TheVariants as made
-use Rattle.format.specs.Scalar.{be, width, magnitude, uint_bytes, neg_bytes, escaped}
-use Rattle.format.specs.Fields.{put, put_at, put_i64_call, put_u64_call, put_str_call, put_fact_id_call}
+use Rattle.format.specs.Scalar.{escaped}
+use Rattle.format.specs.Fields.{put, put_at, put_str_call}
 use Rattle.format.specs.Utf8.{utf8}
 use Rattle.blocks.proofs.Put.{set_put_cons}
 use Rattle.scalar.specs.Answers.{room_for}
@@ -14,7 +14,6 @@ use Rattle.scalar.specs.Runs.{WritesRun}
 use Rattle.scalar.specs.declared.runs.Written.{Written}
 use Rattle.scalar.proofs.Marking.{no_ok}
 use Rattle.scalar.proofs.Cases.{by_test}
-use Rattle.scalar.proofs.Widths.{length_be, int_pos, int_neg}
 
 -- as a saturating sum shows it
 shown_min : (n : ℕ) → min n (2 ^ 64 - 1) ≡ shown n
@@ -59,20 +58,20 @@ module _ (d : List ℕ) (at n : ℕ) (s : List ℕ) (e : n ≡ length s) where
   pub put_none : (x : Refusal) → refused (number_of x) (detail_of x) ≡ room_for (length d) at n → Leaves (put_at d at s) (Err x) d
   put_none x p = put_refused d at s x (rw e at p)
 
--- a mark and k bytes
-marked_long : (mark k n : ℕ) → 1 + k ≡ length (mark ∷ be k n)
-marked_long mark k n = omega (arith, length_be k n)
+-- a whole field
+module _ (d : List ℕ) (at n : ℕ) (s : List ℕ) (e : n ≡ length s) where
+  whole_long : 0 + n ≡ length s
+  whole_long = omega arith
 
-module _ (d : List ℕ) (at mark k n : ℕ) where
-  module _ {j : ℕ} (p : ok j ≡ room_for (length d) at (1 + k)) where
-    pub marked_room : at + (k + 1) ≤ length d
-    marked_room = omega (arith, marked_long mark k n, put_room d at (1 + k) (mark ∷ be k n) (marked_long mark k n) p)
+  module _ {k : ℕ} (p : ok k ≡ room_for (length d) at (0 + n)) where
+    pub whole_room : at + length s ≤ length d
+    whole_room = put_room d at (0 + n) s whole_long p
 
-    pub marked_done : {i : ℕ} {d' : List ℕ} → (i ≡ at + (k + 1)) × (d' ≡ put d at (mark ∷ be k n)) → Leaves (put_at d at (mark ∷ be k n)) (Ok i) d'
-    marked_done w = put_done d at (1 + k) (mark ∷ be k n) (marked_long mark k n) p (omega (arith, w.0, marked_long mark k n)) w.1
+    pub whole_done : {i : ℕ} {d' : List ℕ} → (i ≡ at + length s) × (d' ≡ put d at s) → Leaves (put_at d at s) (Ok i) d'
+    whole_done w = put_done d at (0 + n) s whole_long p w.0 w.1
 
-  pub marked_none : (x : Refusal) → refused (number_of x) (detail_of x) ≡ room_for (length d) at (1 + k) → Leaves (put_at d at (mark ∷ be k n)) (Err x) d
-  marked_none x p = put_none d at (1 + k) (mark ∷ be k n) (marked_long mark k n) x p
+  pub whole_none : (x : Refusal) → refused (number_of x) (detail_of x) ≡ room_for (length d) at (0 + n) → Leaves (put_at d at s) (Err x) d
+  whole_none x p = put_none d at (0 + n) s whole_long x p
 
 -- a mark and a run
 module _ (d : List ℕ) (at mark : ℕ) (payload : List ℕ) (n : ℕ) (e : n ≡ length (escaped payload)) where
@@ -90,27 +89,6 @@ module _ (d : List ℕ) (at mark : ℕ) (payload : List ℕ) (n : ℕ) (e : n �
 
   pub run_none : (x : Refusal) → refused (number_of x) (detail_of x) ≡ room_for (length d) at (1 + n) → Leaves (put_at d at (mark ∷ escaped payload)) (Err x) d
   run_none x p = put_none d at (1 + n) (mark ∷ escaped payload) run_long x p
-
--- ---- integers
-
--- those of a word by its sign
-pub put_pos : (d : List ℕ) (at w : ℕ) {a : Result ℕ Refusal} {d' : List ℕ} → w < 2 ^ 63 → Leaves (put_u64_call d at w) a d'
-    → Leaves (put_i64_call d at w) a d'
-unfolding put_u64_call put_i64_call
-put_pos d at w h p = rw (int_pos h) p
-
-pub put_neg : (d : List ℕ) (at w m k : ℕ) {a : Result ℕ Refusal} {d' : List ℕ} → 2 ^ 63 ≤ w → m ≡ magnitude w → k ≡ width m
-    → Leaves (put_at d at ((0x48 - k) ∷ be k (2 ^ 64 - 1 - m))) a d' → Leaves (put_i64_call d at w) a d'
-unfolding put_i64_call neg_bytes
-put_neg d at w m k h e f p = rw (int_neg h, ← e, ← f) p
-
-pub put_uint : (d : List ℕ) (at n k : ℕ) {a : Result ℕ Refusal} {d' : List ℕ} → k ≡ width n → Leaves (put_at d at ((0x48 + k) ∷ be k n)) a d' → Leaves (put_u64_call d at n) a d'
-unfolding put_u64_call uint_bytes
-put_uint d at n k e p = rw (← e) p
-
-pub put_ref : (d : List ℕ) (at r : ℕ) {a : Result ℕ Refusal} {d' : List ℕ} → Leaves (put_at d at (0x51 ∷ be 8 r)) a d' → Leaves (put_fact_id_call d at r) a d'
-unfolding put_fact_id_call
-put_ref d at r p = p
 
 -- ---- text, judged before any room is asked for
 

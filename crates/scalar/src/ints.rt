@@ -115,7 +115,7 @@ fn mark_width(mark: u8) -> usize
 }
 
 // How many bytes the integer or the reference takes that the rest of a key begins with, by its mark alone: neither width nor range is judged. 0 for anything else,
-// and where it is cut short.
+// and where it is cut short: a length and no Option, since none of them takes 0 bytes and whoever passes over them adds it up.
 pub fn unjudged_len(rest: &[u8]) -> usize
     ensures { result ≡ unjudged rest.now }
 {

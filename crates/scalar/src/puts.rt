@@ -1,11 +1,11 @@
 // Single fields put at a place of a lent buffer.
 ghost use Rattle.std.specs.Prelude.{◌≡◌, ◌+◌, ◌^◌, ◌<◌, ◌∷◌};
 ghost use Rattle.format.specs.Refusals.{answered, Leaves};
-ghost use Rattle.format.specs.Scalar.{be, escaped};
+ghost use Rattle.format.specs.Scalar.{escaped};
 ghost use Rattle.format.specs.Fields.{put_at, put_i64_call, put_u64_call, put_str_call, put_bytes_call, put_fact_id_call};
 ghost use Rattle.scalar.specs.Answers.{room_for};
 
-use crate::{ints, runs};
+use crate::{ints, refs, runs};
 use format::Refusal;
 
 // The place behind head and n bytes more from a place on, in a buffer of so many bytes. They are two numbers since their sum may not fit.
@@ -23,39 +23,28 @@ pub fn room(len: usize, at: usize, head: usize, n: usize) -> Result<usize, Refus
     Ok(start + n)
 }
 
-// Puts a mark and the k low bytes of n behind it.
-fn put_marked(buf: &mut [u8], at: usize, mark: u8, k: usize, n: u64) -> Result<usize, Refusal>
-    ensures { Leaves (put_at buf.old at (mark ∷ be k n)) result buf.new }
-{
-    room(buf.len(), at, 1, k)?;
-    Ok(ints::write_marked(buf, at, mark, k, n))
-}
-
 // Puts an unsigned integer.
 pub fn put_u64(buf: &mut [u8], at: usize, n: u64) -> Result<usize, Refusal>
     ensures { Leaves (put_u64_call buf.old at n) result buf.new }
 {
-    let width = ints::int_width(n);
-    put_marked(buf, at, format::MARK_INT_ZERO + width as u8, width, n)
+    room(buf.len(), at, 0, ints::uint_len(n))?;
+    Ok(ints::write_u64(buf, at, n))
 }
 
 // Puts a signed integer, given as its word.
 pub fn put_i64(buf: &mut [u8], at: usize, w: u64) -> Result<usize, Refusal>
     ensures { Leaves (put_i64_call buf.old at w) result buf.new }
 {
-    if w < ints::NEGATIVE {
-        return put_u64(buf, at, w);
-    }
-    let mag = ints::magnitude_of(w);
-    let width = ints::int_width(mag);
-    put_marked(buf, at, format::MARK_INT_ZERO - width as u8, width, !mag)
+    room(buf.len(), at, 0, ints::int_len(w))?;
+    Ok(ints::write_i64(buf, at, w))
 }
 
 // Puts a reference.
 pub fn put_fact_id(buf: &mut [u8], at: usize, raw: u64) -> Result<usize, Refusal>
     ensures { Leaves (put_fact_id_call buf.old at raw) result buf.new }
 {
-    put_marked(buf, at, format::MARK_FACT_REF, 8, raw)
+    room(buf.len(), at, 0, format::FACT_REF_FIELD_LEN)?;
+    Ok(refs::write_ref(buf, at, raw))
 }
 
 // Puts a payload as a run behind a mark.

@@ -1,15 +1,16 @@
 -- The mark tells the kind: the four ways out are the four kinds that are no groups.
+use Rattle.std.proofs.Common.{arith}
 use Rattle.fill.proofs.LeafLaws as laws
 use Rattle.fill.proofs.leaves.fill_leaf.Goals as goal
 
-pub returns-then-mark-eq-MARK_STRING : goal.returns-then-mark-eq-MARK_STRING
-returns-then-mark-eq-MARK_STRING c = laws.a_str c.if-mark-eq-MARK_STRING.true c.fill_run.ensures
+pub returns-in-33 : goal.returns-in-33
+returns-in-33 c = laws.a_str c.in-33.is c.fill_run.ensures
 
-pub returns-then-mark-eq-MARK_BYTES : goal.returns-then-mark-eq-MARK_BYTES
-returns-then-mark-eq-MARK_BYTES c = laws.a_bytes c.if-mark-eq-MARK_BYTES.true c.fill_run-then-mark-eq-MARK_BYTES.ensures
+pub returns-in-83 : goal.returns-in-83
+returns-in-83 c = laws.a_bytes c.in-83.is c.fill_run-in-83.ensures
 
-pub returns-then-mark-eq-MARK_FACT_REF : goal.returns-then-mark-eq-MARK_FACT_REF
-returns-then-mark-eq-MARK_FACT_REF c = laws.a_ref c.requires.1 c.requires.2 c.if-mark-eq-MARK_FACT_REF.true c.fill_ref.ensures
+pub returns-in-81 : goal.returns-in-81
+returns-in-81 c = laws.a_ref c.requires.1 c.requires.2 c.in-81.is c.fill_ref.ensures
 
-pub returns : goal.returns
-returns c = laws.an_int c.requires.1 c.requires.2 c.if-mark-eq-MARK_STRING.false c.if-mark-eq-MARK_BYTES.false c.if-mark-eq-MARK_FACT_REF.false c.requires.3 c.requires.4 c.fill_int.ensures
+pub returns-in_default : goal.returns-in_default
+returns-in_default c = laws.an_int c.requires.1 c.requires.2 (λ z. omega arith) (λ z. omega arith) (λ z. omega arith) c.requires.3 c.requires.4 c.fill_int.ensures

@@ -1,12 +1,13 @@
 -- What a value took of the pool, by the two marks of runs.
+use Rattle.std.proofs.Common.{arith}
 use Rattle.fill.proofs.LeafLaws as laws
 use Rattle.fill.proofs.leaves.pool_taken.Goals as goal
 
-pub returns-then-mark-eq-MARK_STRING : goal.returns-then-mark-eq-MARK_STRING
-returns-then-mark-eq-MARK_STRING c = laws.taken_str c.args.mark c.args.x c.if-mark-eq-MARK_STRING.true
+pub returns-in-33 : goal.returns-in-33
+returns-in-33 c = laws.taken_str c.args.mark c.args.x c.in-33.is
 
-pub returns-then-mark-eq-MARK_BYTES : goal.returns-then-mark-eq-MARK_BYTES
-returns-then-mark-eq-MARK_BYTES c = laws.taken_bytes c.args.mark c.args.x c.if-mark-eq-MARK_BYTES.true
+pub returns-in-83 : goal.returns-in-83
+returns-in-83 c = laws.taken_bytes c.args.mark c.args.x c.in-83.is
 
-pub returns : goal.returns
-returns c = laws.taken_none c.args.mark c.args.x c.if-mark-eq-MARK_STRING.false c.if-mark-eq-MARK_BYTES.false
+pub returns-in_default : goal.returns-in_default
+returns-in_default c = laws.taken_none c.args.mark c.args.x (λ z. omega arith) (λ z. omega arith)

@@ -1,5 +1,4 @@
 -- The key's fields are its first k and the rest: the rest's types stand where the first end, and both parts decode where the key does.
-use native.Mathlib.Omega.{arith}
 use Rattle.std.proofs.lemmas.Result.{err_from_is_err_and}
 use Rattle.key.proofs.SpanLaws as laws
 use Rattle.key.proofs.passing.split_key.Goals as goal

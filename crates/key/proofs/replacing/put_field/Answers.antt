@@ -4,9 +4,6 @@ use Rattle.std.proofs.lemmas.Result.{err_from_is_err_and}
 use Rattle.key.proofs.ValueLaws as laws
 use Rattle.key.proofs.replacing.put_field.Goals as goal
 
-pub returns-then-not-admit_value : goal.returns-then-not-admit_value
-returns-then-not-admit_value c = search laws.v_bad
-
 pub fit_value-requires : goal.fit_value-requires
 fit_value-requires c = search laws.v_stands
 

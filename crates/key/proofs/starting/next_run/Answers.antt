@@ -1,7 +1,6 @@
 -- The checks stand in the definition's order; each is a law about the sheets that passed those before it.
-use Rattle.key.proofs.FirstsLaws.{first_words, the_firsts, k_there, k_small}
+use Rattle.key.proofs.FirstsLaws.{first_words, the_firsts, k_there}
 use Rattle.key.proofs.StartingLaws as laws
-use native.Mathlib.Omega.{arith}
 use Rattle.key.proofs.starting.next_run.Goals as goal
 
 pub returns-then-not-admit_type : goal.returns-then-not-admit_type
@@ -22,12 +21,6 @@ pub bounds-words-1 : goal.bounds-words-1
 bounds-words-1 c =
     let a = c.args in
     k_there (the_firsts a.ty.now a.words.now a.pool.now c.admit_type.ensures c.if-not-admit_type.false c.admit_record.ensures c.if-not-admit_record.false c.has_next.ensures c.if-not-has_next.false)
-
-pub overflow_cast-words : goal.overflow_cast-words
-overflow_cast-words c =
-    let a = c.args in
-    let i = the_firsts a.ty.now a.words.now a.pool.now c.admit_type.ensures c.if-not-admit_type.false c.admit_record.ensures c.if-not-admit_record.false c.has_next.ensures c.if-not-has_next.false in
-    record { fits = k_small i (omega (arith, c.type_inv.ty 1)) }
 
 pub run_mark-requires : goal.run_mark-requires
 run_mark-requires c =

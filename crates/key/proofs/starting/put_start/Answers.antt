@@ -1,10 +1,7 @@
 -- The fields, the mark and the beginning of the run are written one behind the other.
 use Rattle.key.proofs.StartingLaws as laws
 use native.Mathlib.Omega.{arith}
-use lib.ListN.{length-set}
 use Rattle.key.proofs.FirstsLaws.{count_in}
-use mathlib.Core.Path.{◌∙◌}
-use borrow.Author.Rules.{rules}
 use Rattle.key.proofs.starting.put_start.Goals as goal
 
 pub bounds-words-1 : goal.bounds-words-1
@@ -14,9 +11,6 @@ pub put_fields-requires : goal.put_fields-requires
 put_fields-requires c =
     let h = (count_in c.args.words.now c.args.pool.now c.requires.0.first_is).0 in
     record { word_in = omega arith; pool_in = omega arith; at_in = omega arith; deep = omega arith }
-
-pub write_start-requires : goal.write_start-requires
-write_start-requires c = simp length-set (omega (arith, c.put_fields.ensures.onward.kept, c.requires.1))
 
 pub returns : goal.returns
 returns c =

@@ -22,11 +22,6 @@ returns-then-upper-high c =
     let short = laws.p_short a.words.now a.pool.now a.n a.mark a.s.now a.lower.now a.upper.now c.requires.1 c.start_len.ensures c.in_ok-low.ensures t.result t.ensures (omega arith) in
     laws.p_high a.words.now a.pool.now a.n a.mark a.s.now a.lower.now a.upper.now c.requires.1 c.start_len.ensures c.in_ok-low.ensures t.ensures c.if-upper-high.true short
 
-pub put_start-requires : goal.put_start-requires
-put_start-requires c =
-    let a = c.args in
-    (c.requires.0, laws.p_room a.words.now a.pool.now a.n a.mark a.s.now a.lower.now a.upper.now c.requires.1 c.start_len.ensures c.in_ok-low.ensures)
-
 pub returns-in_err-end : goal.returns-in_err-end
 returns-in_err-end c =
     let a = c.args in

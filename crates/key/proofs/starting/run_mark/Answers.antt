@@ -1,6 +1,5 @@
 -- The kind at the place, or behind word 7.
 use Rattle.key.proofs.StartingLaws as laws
-use borrow.Author.Rules.{rules}
 use Rattle.key.proofs.starting.run_mark.Goals as goal
 
 pub bounds-ty-at : goal.bounds-ty-at

@@ -1,9 +1,6 @@
 -- What is left of s ends in no FF: its beginning does where its last byte is a zero, and there by one.
 use Rattle.key.proofs.StartingLaws as laws
-use mathlib.Core.Path.{sym}
 use native.Mathlib.Omega.{arith}
-use lib.Seq.{length-take-le}
-use borrow.Author.Rules.{rules}
 use Rattle.key.proofs.starting.trimmed_start.Goals as goal
 
 pub returns-then-n-eq0 : goal.returns-then-n-eq0

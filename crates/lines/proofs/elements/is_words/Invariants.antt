@@ -1,9 +1,0 @@
--- The place stays within the n numbers of the buffer, and what is left of them falls.
-use Rattle.std.proofs.Common.{◌-◌, ◌≤◌}
-use Rattle.lines.proofs.elements.is_words.Given as goal
-
-abbrev pub invariant-loop-i : goal.invariant-loop-i
-invariant-loop-i l = l.i ≤ l.n
-
-abbrev pub decreases-loop-i : goal.decreases-loop-i
-decreases-loop-i l = l.n - l.i
