@@ -103,13 +103,13 @@ pub fn encode_key(
     ensures { Encodes encode_key_call encode_key_zeros ty.now words.now pool.now out.old result out.new }
 {
     admit(ty, words, pool)?;
-    let length = fit_key(ty, words, pool)?.len;
-    if format::MAX_KEY_BYTES < length {
-        return Err(Refusal::KeyTooLong(length));
+    let len = fit_key(ty, words, pool)?.len;
+    if format::MAX_KEY_BYTES < len {
+        return Err(Refusal::KeyTooLong(len));
     }
-    if out.len() < length {
-        return Err(Refusal::NoRoom(length));
+    if out.len() < len {
+        return Err(Refusal::NoRoom(len));
     }
     let zeros = put_key(ty, words, pool, out);
-    Ok(Encoded { length, zeros })
+    Ok(Encoded { length: len, zeros })
 }

@@ -1,6 +1,12 @@
 -- How two values compare, by what stands at their places: one law for each answer of the walk.
-use Rattle.std.proofs.Common.{◌≡◌, ℕ, zero, suc, ◌+◌, ◌-◌, ◌<◌, ◌≤◌, List, length, get_or, take, drop, sym, refl, ap, ◌∙◌, subst, ap₂, arith}
+use Rattle.std.proofs.Common.{◌≡◌, ℕ, zero, suc, ◌+◌, ◌-◌, ◌<◌, ◌≤◌, List, length, get_or, take, drop, min, sym, refl, ap, ◌∙◌, subst, ap₂, arith}
 use Prim.Native.Nat.{compare, Ordering}
+use mathlib.Core.Bool.{Bool, true, false}
+use Rattle.std.specs.declared.cmp.Ordering.{Ordering as Answer}
+use Rattle.std.specs.declared.cmp.Ordering.TheVariants.{Less, Equal, Greater}
+use Rattle.std.specs.Ordering.{nat_cmp, is_ne}
+use Rattle.std.proofs.lemmas.Cmp.{ranked, by_ranked}
+use Rattle.blocks.specs.Compare.{order_of}
 use Rattle.format.specs.Tree.{Val, Vals, val_kind, number_in, run_in, fields_in, payload_in}
 use Rattle.format.specs.Sheet.{val_count, val_words, val_pool}
 use Rattle.format.specs.Order.{then, cmp_bytes, offset, rank, cmp_val, cmp_vals}
@@ -9,32 +15,40 @@ use Rattle.format.proofs.KindLaws.{built, kind_of, is_made}
 use Rattle.format.proofs.SheetPlaces.{Span, taken}
 use Rattle.format.proofs.ValuePlaces.{ValueIn, ValuesIn, word_of, kind_is, word_is_lem, record_in, union_in, field_in}
 use Rattle.order.specs.declared.Walk.{Walk}
-use Rattle.order.specs.Compare.{code, rank_of, standing, Within, Says, One, Row, CompareScalar, CompareValue, CompareFields}
+use Rattle.order.specs.Compare.{rank_of, Within, Says, One, Row, CompareScalar, CompareValue, CompareFields}
 
 -- ---- orders and ranks
 
-code_eq : (o : Ordering) → code o ≡ 0 → o ≡ Ordering.eq
-code_eq Ordering.lt h = absurd (omega arith)
-code_eq Ordering.eq h = refl
-code_eq Ordering.gt h = absurd (omega arith)
+-- the library's comparison of numbers is that of the definitions
+by_cmp : (x y : ℕ) {o : Answer} → o ≡ nat_cmp x y → order_of o ≡ compare x y
+by_cmp x y {o} e = by_ranked (x < y) (x ≡ y) (y < x) o (ranked x y o e)
+    (λ q h. ap order_of q ∙ sym (less h))
+    (λ q h. ap order_of q ∙ sym (ap (λ (n : ℕ). compare n y) h ∙ alike y))
+    (λ q h. ap order_of q ∙ sym (more h))
 
-same_rank : {m n c l : ℕ} → n ≡ l → c ≡ code (compare m n) → c ≡ 0 → m ≡ l
-same_rank {m} {n} e k z = compare_eq m n (code_eq (compare m n) (sym k ∙ z)) ∙ e
+-- the test of an answer
+equal : {o : Answer} {b : Bool} → b ≡ is_ne o → b ≡ false → o ≡ Equal
+equal {o = Less} e z = let n : ◌≡◌ {A = ℕ} 0 1 = cc in absurd (omega arith)
+equal {o = Equal} e z = refl
+equal {o = Greater} e z = let n : ◌≡◌ {A = ℕ} 0 1 = cc in absurd (omega arith)
 
-pub code_less : (x y : ℕ) → x < y → 1 ≡ code (compare x y)
-code_less x y h = ap code (sym (less h))
+unequal : {o : Answer} {b : Bool} → b ≡ is_ne o → b ≡ true → o ≡ Equal → ⊥
+unequal e z h = let n : ◌≡◌ {A = ℕ} 0 1 = cc in omega arith
 
-pub code_more : (x y : ℕ) → y < x → 2 ≡ code (compare x y)
-code_more x y h = ap code (sym (more h))
+lower : {c : Answer} → order_of c ≡ Ordering.lt → c ≡ Equal → ⊥
+lower q e = let z : Ordering.eq ≡ Ordering.lt = ap order_of (sym e) ∙ q in let n : ◌≡◌ {A = ℕ} 0 1 = cc in omega arith
 
-pub code_same : (x y : ℕ) → y ≤ x → x ≤ y → 0 ≡ code (compare x y)
-code_same x y h k = let e : x ≡ y = omega arith in ap code (sym (ap (λ (n : ℕ). compare n y) e ∙ alike y))
+higher : {c : Answer} → order_of c ≡ Ordering.gt → c ≡ Equal → ⊥
+higher q e = let z : Ordering.eq ≡ Ordering.gt = ap order_of (sym e) ∙ q in let n : ◌≡◌ {A = ℕ} 0 1 = cc in omega arith
+
+same_rank : {m n l : ℕ} {c : Answer} → n ≡ l → c ≡ nat_cmp m n → c ≡ Equal → m ≡ l
+same_rank {m} {n} e k z = compare_eq m n (sym (by_cmp m n k) ∙ ap order_of z) ∙ e
 
 -- a part that differs decides
-decided : (o q : Ordering) → (code o ≡ 0 → ⊥) → then o q ≡ o
-decided Ordering.lt q h = refl
-decided Ordering.eq q h = absurd (h refl)
-decided Ordering.gt q h = refl
+decided : (o : Answer) (d q : Ordering) → order_of o ≡ d → (o ≡ Equal → ⊥) → then d q ≡ d
+decided Less d q e h = rw (← e) refl
+decided Equal d q e h = absurd (h refl)
+decided Greater d q e h = rw (← e) refl
 
 rank_is : (v : Val) → rank_of (val_kind v) ≡ rank v
 unfolding rank_of
@@ -140,44 +154,46 @@ abbrev Anywhere : (pa pb : List ℕ) (s : Walk) (k x y : ℕ) → Walk → Type 
 Anywhere pa pb s k x y r = (wa wb : List ℕ) → k ≡ rank_of (get_or wa s.i 0) → k ≡ rank_of (get_or wb s.j 0) → x ≡ get_or wa (s.i + 1) 0 → y ≡ get_or wb (s.j + 1) 0
     → (k ≡ 0x00 → ⊥) → (k ≡ 0x22 → ⊥) → (k ≡ 0x52 → ⊥) → One wa pa wb pb s.i s.p s.j s.q r
 
+abbrev standing : (order : Answer) (i p j q : ℕ) → Walk
+standing order i p j q = record { order = order; i = i; p = p; j = j; q = q }
+
 -- such values end at most two words on
-walked : {pa pb : List ℕ} {s : Walk} {k x y c m e n f : ℕ} {r : Walk} → r ≡ standing c m e n f → s.i ≤ m → m ≤ s.i + 2 → e ≤ length pa → n ≤ s.j + 2 → f ≤ length pb → Anywhere pa pb s k x y (standing c m e n f) → CompareScalar pa pb s k x y r
-walked at on in_wa in_pa in_wb in_pb says = rw at (record { on = on; in_wa = in_wa; in_pa = in_pa; in_wb = in_wb; in_pb = in_pb; says = says })
+walked : {pa pb : List ℕ} {s : Walk} {k x y : ℕ} (r : Walk) → s.i ≤ r.i → r.i ≤ s.i + 2 → r.p ≤ length pa → r.j ≤ s.j + 2 → r.q ≤ length pb → Anywhere pa pb s k x y r → CompareScalar pa pb s k x y r
+walked r on in_wa in_pa in_wb in_pb says = record { on = on; in_wa = in_wa; in_pa = in_pa; in_wb = in_wb; in_pb = in_pb; says = says }
 
 module _ {pa pb : List ℕ} {s : Walk} {k x y : ℕ} (in_pa : s.p ≤ length pa) (in_pb : s.q ≤ length pb) where
-  module _ {c : ℕ} {r : Walk} (e : r ≡ standing c (s.i + 2) s.p (s.j + 2) s.q) where
-    pub an_int : k ≡ 0x40 → {m n : ℕ} → m ≡ offset x → n ≡ offset y → c ≡ code (compare m n) → CompareScalar pa pb s k x y r
-    unfolding built kind_of cmp_val val_words val_pool
-    an_int z xm yn o = walked e (omega arith) (omega arith) in_pa (omega arith) in_pb (λ wa wb ka kb kx ky n0 n1 n4. on_rank ka kb 0x40 z (λ a b e f g h u v. record {
-      order = o ∙ ap₂ (λ (m n : ℕ). code (compare m n)) (xm ∙ ap offset (kx ∙ (second u ka n0).1)) (yn ∙ ap offset (ky ∙ (second v kb n0).1));
-      ends = λ o. record { at_i = omega (arith, u.words.long); at_p = omega (arith, u.pool.long); at_j = omega (arith, v.words.long); at_q = omega (arith, v.pool.long) };
-    }))
+  pub an_int : k ≡ 0x40 → {m n : ℕ} → m ≡ offset x → n ≡ offset y → {c : Answer} → c ≡ nat_cmp m n → CompareScalar pa pb s k x y (standing c (s.i + 2) s.p (s.j + 2) s.q)
+  unfolding built kind_of cmp_val val_words val_pool
+  an_int z {m} {n} xm yn o = walked _ (omega arith) (omega arith) in_pa (omega arith) in_pb (λ wa wb ka kb kx ky n0 n1 n4. on_rank ka kb 0x40 z (λ a b e f g h u v. record {
+    order = by_cmp m n o ∙ ap₂ compare (xm ∙ ap offset (kx ∙ (second u ka n0).1)) (yn ∙ ap offset (ky ∙ (second v kb n0).1));
+    ends = λ o. record { at_i = omega (arith, u.words.long); at_p = omega (arith, u.pool.long); at_j = omega (arith, v.words.long); at_q = omega (arith, v.pool.long) };
+  }))
 
-    pub a_ref : k ≡ 0x51 → c ≡ code (compare x y) → CompareScalar pa pb s k x y r
-    unfolding built kind_of cmp_val val_words val_pool
-    a_ref z o = walked e (omega arith) (omega arith) in_pa (omega arith) in_pb (λ wa wb ka kb kx ky n0 n1 n4. on_rank ka kb 0x51 z (λ a b e f g h u v. record {
-      order = o ∙ ap₂ (λ (m n : ℕ). code (compare m n)) (kx ∙ (second u ka n0).1) (ky ∙ (second v kb n0).1);
-      ends = λ o. record { at_i = omega (arith, u.words.long); at_p = omega (arith, u.pool.long); at_j = omega (arith, v.words.long); at_q = omega (arith, v.pool.long) };
-    }))
+  pub a_ref : k ≡ 0x51 → {c : Answer} → c ≡ nat_cmp x y → CompareScalar pa pb s k x y (standing c (s.i + 2) s.p (s.j + 2) s.q)
+  unfolding built kind_of cmp_val val_words val_pool
+  a_ref z o = walked _ (omega arith) (omega arith) in_pa (omega arith) in_pb (λ wa wb ka kb kx ky n0 n1 n4. on_rank ka kb 0x51 z (λ a b e f g h u v. record {
+    order = by_cmp x y o ∙ ap₂ compare (kx ∙ (second u ka n0).1) (ky ∙ (second v kb n0).1);
+    ends = λ o. record { at_i = omega (arith, u.words.long); at_p = omega (arith, u.pool.long); at_j = omega (arith, v.words.long); at_q = omega (arith, v.pool.long) };
+  }))
 
   module _ (n2 : k ≡ 0x40 → ⊥) (n3 : k ≡ 0x51 → ⊥) where
     pub long_a : length pa - s.p < x → CompareScalar pa pb s k x y s
-    long_a l = walked refl (omega arith) (omega arith) in_pa (omega arith) in_pb (λ wa wb ka kb kx ky n0 n1 n4. record {
+    long_a l = walked s (omega arith) (omega arith) in_pa (omega arith) in_pb (λ wa wb ka kb kx ky n0 n1 n4. record {
       one = λ a b e f g h u v.
           let o = run_of n0 n1 n2 n3 n4 {v = a} (rank_at u ka) in
           absurd (omega (arith, u.pool.long, u.pool.within, ap length o.bytes, o.word, kx, (second u ka n0).1));
     })
 
     pub long_b : length pb - s.q < y → CompareScalar pa pb s k x y s
-    long_b l = walked refl (omega arith) (omega arith) in_pa (omega arith) in_pb (λ wa wb ka kb kx ky n0 n1 n4. record {
+    long_b l = walked s (omega arith) (omega arith) in_pa (omega arith) in_pb (λ wa wb ka kb kx ky n0 n1 n4. record {
       one = λ a b e f g h u v.
           let o = run_of n0 n1 n2 n3 n4 {v = b} (rank_at v kb) in
           absurd (omega (arith, v.pool.long, v.pool.within, ap length o.bytes, o.word, ky, (second v kb n0).1));
     })
 
-    pub a_run : x ≤ length pa - s.p → y ≤ length pb - s.q → {c : ℕ} → c ≡ code (cmp_bytes (take (s.p + x - s.p) (drop s.p pa)) (take (s.q + y - s.q) (drop s.q pb)))
-        → {r : Walk} → r ≡ standing c (s.i + 2) (s.p + x) (s.j + 2) (s.q + y) → CompareScalar pa pb s k x y r
-    a_run la lb o e = walked e (omega arith) (omega arith) (omega (arith, la)) (omega arith) (omega (arith, lb)) (λ wa wb ka kb kx ky n0 n1 n4. record {
+    pub a_run : x ≤ length pa - s.p → y ≤ length pb - s.q → {c : Answer} → order_of c ≡ cmp_bytes (take (s.p + x - s.p) (drop s.p pa)) (take (s.q + y - s.q) (drop s.q pb))
+        → CompareScalar pa pb s k x y (standing c (s.i + 2) (s.p + x) (s.j + 2) (s.q + y))
+    a_run la lb o = walked _ (omega arith) (omega arith) (omega (arith, la)) (omega arith) (omega (arith, lb)) (λ wa wb ka kb kx ky n0 n1 n4. record {
       one = λ a b e f g h u v.
           let ra = rank_at u ka in
           let rb = rank_at v kb in
@@ -188,7 +204,7 @@ module _ {pa pb : List ℕ} {s : Walk} {k x y : ℕ} (in_pa : s.p ≤ length pa)
           let oa = run_bytes pa (val_pool a) s.p f x u.pool lx ∙ m.bytes in
           let ob = run_bytes pb (val_pool b) s.q h y v.pool ly ∙ n.bytes in
           record {
-            order = o ∙ ap₂ (λ (l n : List ℕ). code (cmp_bytes l n)) oa ob ∙ ap code (sym (bytewise n0 n1 n2 n3 n4 a b ra rb));
+            order = o ∙ ap₂ cmp_bytes oa ob ∙ sym (bytewise n0 n1 n2 n3 n4 a b ra rb);
             ends = λ o. record { at_i = omega (arith, u.words.long, m.two); at_p = omega (arith, u.pool.long); at_j = omega (arith, v.words.long, n.two); at_q = omega (arith, v.pool.long) };
           };
     })
@@ -196,163 +212,158 @@ module _ {pa pb : List ℕ} {s : Walk} {k x y : ℕ} (in_pa : s.p ≤ length pa)
 -- ---- two values
 
 -- the same places, with another order
-abbrev staying : ℕ → Walk → Walk
+abbrev staying : Answer → Walk → Walk
 staying c s = standing c s.i s.p s.j s.q
 
-same_places : {wa pa wb pb : List ℕ} {s : Walk} → Within wa pa wb pb s → (c : ℕ) → Within wa pa wb pb (staying c s)
+-- what is inside two groups
+abbrev inside : Walk → Walk
+inside s = standing Equal (s.i + 2) s.p (s.j + 2) s.q
+
+same_places : {wa pa wb pb : List ℕ} {s : Walk} → Within wa pa wb pb s → (c : Answer) → Within wa pa wb pb (staying c s)
 same_places w c = record { in_wa = w.in_wa; in_pa = w.in_pa; in_wb = w.in_wb; in_pb = w.in_pb }
 
 module _ {wa pa wb pb : List ℕ} {s : Walk} (w : Within wa pa wb pb s) where
-  stays : {c : ℕ} {r : Walk} → r ≡ staying c s → One wa pa wb pb s.i s.p s.j s.q (staying c s) → CompareValue wa pa wb pb s r
-  stays {c} e o = rw e (record { on = omega arith; within = same_places w c; says = o })
+  stays : {c : Answer} → One wa pa wb pb s.i s.p s.j s.q (staying c s) → CompareValue wa pa wb pb s (staying c s)
+  stays {c} o = record { on = omega arith; within = same_places w c; says = o }
 
   -- no value stands past the end
   pub gone_a : length wa ≤ s.i → CompareValue wa pa wb pb s s
-  gone_a l = stays refl (record { one = λ a b e f g h u v. absurd (omega (arith, (kind_is wa pa s.i s.p e f a u).0)) })
+  gone_a l = stays (record { one = λ a b e f g h u v. absurd (omega (arith, (kind_is wa pa s.i s.p e f a u).0)) })
 
   pub gone_b : length wb ≤ s.j → CompareValue wa pa wb pb s s
-  gone_b l = stays refl (record { one = λ a b e f g h u v. absurd (omega (arith, (kind_is wb pb s.j s.q g h b v).0)) })
+  gone_b l = stays (record { one = λ a b e f g h u v. absurd (omega (arith, (kind_is wb pb s.j s.q g h b v).0)) })
 
-  module _ {k n c : ℕ} (ka : k ≡ rank_of (get_or wa s.i 0)) (kn : n ≡ rank_of (get_or wb s.j 0)) (kc : c ≡ code (compare k n)) where
-    pub apart : (c ≡ 0 → ⊥) → {r : Walk} → r ≡ staying c s → CompareValue wa pa wb pb s r
-    apart z e = stays e (record {
+  module _ {k n : ℕ} (ka : k ≡ rank_of (get_or wa s.i 0)) (kn : n ≡ rank_of (get_or wb s.j 0)) {c : Answer} (kc : c ≡ nat_cmp k n) {t : Bool} (kt : t ≡ is_ne c) where
+    pub apart : t ≡ true → CompareValue wa pa wb pb s (staying c s)
+    apart z = stays (record {
       one = λ a b e f g h u v.
           let o = by_rank a b in
           let x : compare (rank a) (rank b) ≡ compare k n = sym (ap₂ compare (rank_at u ka) (rank_at v kn)) in
-          let y : cmp_val a b ≡ compare k n = o.1 ∙ ap (λ (d : Ordering). then d o.0) x ∙ decided (compare k n) o.0 (λ d. z (kc ∙ d)) in
-          record { order = kc ∙ ap code (sym y); ends = λ d. absurd (z d) };
+          let y : cmp_val a b ≡ compare k n = o.1 ∙ ap (λ (d : Ordering). then d o.0) x ∙ decided c (compare k n) o.0 (by_cmp k n kc) (unequal kt z) in
+          record { order = by_cmp k n kc ∙ sym y; ends = λ d. absurd (unequal kt z d) };
     })
 
-    module _ (z : c ≡ 0) where
-      pub null : s.i < length wa → s.j < length wb → k ≡ 0x00 → {r : Walk} → r ≡ standing 0 (s.i + 1) s.p (s.j + 1) s.q → CompareValue wa pa wb pb s r
-      unfolding built kind_of cmp_val val_words val_pool
-      null la lb y e = rw e (record {
-        on = omega arith;
-        within = record { in_wa = omega (arith, la); in_pa = w.in_pa; in_wb = omega (arith, lb); in_pb = w.in_pb };
-        says = on_rank ka (same_rank kn kc z) 0x00 y (λ a b e f g h u v. record {
-          order = refl;
-          ends = λ o. record { at_i = omega (arith, u.words.long); at_p = omega (arith, u.pool.long); at_j = omega (arith, v.words.long); at_q = omega (arith, v.pool.long) };
-        });
-      })
+    module _ (z : t ≡ false) where
+      pub both : k ≡ rank_of (get_or wb s.j 0)
+      both = same_rank kn kc (equal kt z)
 
-      module _ (some : k ≡ 0x00 → ⊥) where
-        pub short_a : length wa - s.i < 2 → CompareValue wa pa wb pb s s
-        short_a l = stays refl (record { one = λ a b e f g h u v. absurd (omega (arith, (second u ka some).0)) })
+module _ {wa pa wb pb : List ℕ} {s : Walk} (w : Within wa pa wb pb s) {k : ℕ} (ka : k ≡ rank_of (get_or wa s.i 0)) (kb : k ≡ rank_of (get_or wb s.j 0)) where
+  pub null : s.i < length wa → s.j < length wb → k ≡ 0x00 → CompareValue wa pa wb pb s (standing Equal (s.i + 1) s.p (s.j + 1) s.q)
+  unfolding built kind_of cmp_val val_words val_pool
+  null la lb y = record {
+    on = omega arith;
+    within = record { in_wa = omega (arith, la); in_pa = w.in_pa; in_wb = omega (arith, lb); in_pb = w.in_pb };
+    says = on_rank ka kb 0x00 y (λ a b e f g h u v. record {
+      order = refl;
+      ends = λ o. record { at_i = omega (arith, u.words.long); at_p = omega (arith, u.pool.long); at_j = omega (arith, v.words.long); at_q = omega (arith, v.pool.long) };
+    });
+  }
 
-        pub short_b : length wb - s.j < 2 → CompareValue wa pa wb pb s s
-        short_b l = stays refl (record { one = λ a b e f g h u v. absurd (omega (arith, (second v (same_rank kn kc z) some).0)) })
+  module _ (some : k ≡ 0x00 → ⊥) where
+    pub short_a : length wa - s.i < 2 → CompareValue wa pa wb pb s s
+    short_a l = stays w (record { one = λ a b e f g h u v. absurd (omega (arith, (second u ka some).0)) })
 
-        pub a_scalar : {r : Walk} → CompareScalar pa pb s k (get_or wa (s.i + 1) 0) (get_or wb (s.j + 1) 0) r → 2 ≤ length wa - s.i → 2 ≤ length wb - s.j → (k ≡ 0x22 → ⊥) → (k ≡ 0x52 → ⊥)
-            → CompareValue wa pa wb pb s r
-        a_scalar f la lb n1 n4 = record {
-          on = f.on;
-          within = record { in_wa = omega (arith, f.in_wa, w.in_wa, la); in_pa = f.in_pa; in_wb = omega (arith, f.in_wb, w.in_wb, lb); in_pb = f.in_pb };
-          says = f.says wa wb ka (same_rank kn kc z) refl refl some n1 n4;
-        }
+    pub short_b : length wb - s.j < 2 → CompareValue wa pa wb pb s s
+    short_b l = stays w (record { one = λ a b e f g h u v. absurd (omega (arith, (second v kb some).0)) })
 
-        pub tags_apart : k ≡ 0x52 → {d : ℕ} → d ≡ code (compare (get_or wa (s.i + 1) 0) (get_or wb (s.j + 1) 0)) → (d ≡ 0 → ⊥) → {r : Walk} → r ≡ staying d s → CompareValue wa pa wb pb s r
-        unfolding built kind_of cmp_val
-        tags_apart y kd x e = stays e (on_rank ka (same_rank kn kc z) 0x52 y (λ a b e f g h u v.
-            let o = ap₂ compare (second u ka some).1 (second v (same_rank kn kc z) some).1 in
-            let l = decided (compare (number_in a) (number_in b)) (cmp_val (payload_in a) (payload_in b)) (λ n. x (kd ∙ ap code o ∙ n)) in
-            record { order = kd ∙ ap code (o ∙ sym l); ends = λ n. absurd (x n) }))
+    pub a_scalar : {r : Walk} → CompareScalar pa pb s k (get_or wa (s.i + 1) 0) (get_or wb (s.j + 1) 0) r → 2 ≤ length wa - s.i → 2 ≤ length wb - s.j → (k ≡ 0x22 → ⊥) → (k ≡ 0x52 → ⊥)
+        → CompareValue wa pa wb pb s r
+    a_scalar f la lb n1 n4 = record {
+      on = f.on;
+      within = record { in_wa = omega (arith, f.in_wa, w.in_wa, la); in_pa = f.in_pa; in_wb = omega (arith, f.in_wb, w.in_wb, lb); in_pb = f.in_pb };
+      says = f.says wa wb ka kb refl refl some n1 n4;
+    }
 
--- ---- two groups
+    pub a_record : {r : Walk} → CompareFields wa pa wb pb (inside s) (get_or wa (s.i + 1) 0) (get_or wb (s.j + 1) 0) r → k ≡ 0x22 → CompareValue wa pa wb pb s r
+    unfolding built kind_of cmp_val
+    a_record m y = record {
+      on = omega (arith, m.on);
+      within = m.within;
+      says = on_rank ka kb 0x22 y (λ a b e f g h u v.
+          let us = fields_in a in
+          let vs = fields_in b in
+          m.says.row us vs e f g h (second u ka some).1 (second v kb some).1 (record_in wa pa s.i s.p e f us u) (record_in wb pb s.j s.q g h vs v));
+    }
 
-module _ {wa pa wb pb : List ℕ} {s : Walk} {k n c : ℕ} (ka : k ≡ rank_of (get_or wa s.i 0)) (kn : n ≡ rank_of (get_or wb s.j 0)) (kc : c ≡ code (compare k n)) (z : c ≡ 0) (some : k ≡ 0x00 → ⊥) where
-  pub a_record : {r fields : Walk} → CompareFields wa pa wb pb fields (get_or wa (s.i + 1) 0) (get_or wb (s.j + 1) 0) r → fields ≡ standing 0 (s.i + 2) s.p (s.j + 2) s.q → k ≡ 0x22 → CompareValue wa pa wb pb s r
-  unfolding built kind_of cmp_val
-  a_record l e y =
-      let m = rw e at l in
-      record {
+    module _ (y : k ≡ 0x52) {d : Answer} (kd : d ≡ nat_cmp (get_or wa (s.i + 1) 0) (get_or wb (s.j + 1) 0)) {t : Bool} (kt : t ≡ is_ne d) where
+      tags : {a b : Val} {e f g h : ℕ} → ValueIn wa pa s.i s.p a e f → ValueIn wb pb s.j s.q b g h → order_of d ≡ compare (word_of a) (word_of b)
+      tags u v = by_cmp _ _ kd ∙ ap₂ compare (second u ka some).1 (second v kb some).1
+
+      pub tags_apart : t ≡ true → CompareValue wa pa wb pb s (staying d s)
+      unfolding built kind_of cmp_val
+      tags_apart x = stays w (on_rank ka kb 0x52 y (λ a b e f g h u v.
+          let l = decided d (compare (number_in a) (number_in b)) (cmp_val (payload_in a) (payload_in b)) (tags u v) (unequal kt x) in
+          record { order = tags u v ∙ sym l; ends = λ n. absurd (unequal kt x n) }))
+
+      pub a_union : {r : Walk} → CompareValue wa pa wb pb (inside s) r → t ≡ false → CompareValue wa pa wb pb s r
+      unfolding built kind_of cmp_val
+      a_union m x = record {
         on = omega (arith, m.on);
         within = m.within;
-        says = on_rank ka (same_rank kn kc z) 0x22 y (λ a b e f g h u v.
-            let us = fields_in a in
-            let vs = fields_in b in
-            m.says.row us vs e f g h (second u ka some).1 (second v (same_rank kn kc z) some).1 (record_in wa pa s.i s.p e f us u) (record_in wb pb s.j s.q g h vs v));
-      }
-
-  pub a_union : {r payload : Walk} → CompareValue wa pa wb pb payload r → payload ≡ standing 0 (s.i + 2) s.p (s.j + 2) s.q → k ≡ 0x52
-      → {d : ℕ} → d ≡ code (compare (get_or wa (s.i + 1) 0) (get_or wb (s.j + 1) 0)) → d ≡ 0 → CompareValue wa pa wb pb s r
-  unfolding built kind_of cmp_val
-  a_union l e y kd x =
-      let m = rw e at l in
-      record {
-        on = omega (arith, m.on);
-        within = m.within;
-        says = on_rank ka (same_rank kn kc z) 0x52 y (λ a b e f g h u v.
-            let o : compare (number_in a) (number_in b) ≡ Ordering.eq = sym (ap₂ compare (second u ka some).1 (second v (same_rank kn kc z) some).1) ∙ code_eq _ (sym kd ∙ x) in
+        says = on_rank ka kb 0x52 y (λ a b e f g h u v.
+            let o : compare (number_in a) (number_in b) ≡ Ordering.eq = sym (tags u v) ∙ ap order_of (equal kt x) in
             rw o (m.says.one (payload_in a) (payload_in b) e f g h (union_in wa pa s.i s.p e f (number_in a) (payload_in a) u) (union_in wb pb s.j s.q g h (number_in b) (payload_in b) v)));
       }
 
 -- ---- fields one after another
 
--- the loop over the fields: what the rest says, it says of the whole
-pub record Walking (wa pa wb pb : List ℕ) (x y : ℕ) (s : Walk) (m n : ℕ) (here : Walk) : Type 0 where
+-- the loop over the fields, k of which were equal: what the rest says, it says of the whole
+pub record Walking (wa pa wb pb : List ℕ) (x y : ℕ) (s : Walk) (k : ℕ) (here : Walk) : Type 0 where
   pub on : s.i ≤ here.i
   pub within : Within wa pa wb pb here
-  pub so_far : (e : Walk) → Row wa pa wb pb m n here.i here.p here.j here.q e → Row wa pa wb pb x y s.i s.p s.j s.q e
+  pub so_far : (e : Walk) → Row wa pa wb pb (x - k) (y - k) here.i here.p here.j here.q e → Row wa pa wb pb x y s.i s.p s.j s.q e
 
-module _ {wa pa wb pb : List ℕ} {x y : ℕ} {s : Walk} {m n : ℕ} {here : Walk} (w : Walking wa pa wb pb x y s m n here) where
+pub starts : {wa pa wb pb : List ℕ} (x y : ℕ) {s : Walk} → Within wa pa wb pb s → Walking wa pa wb pb x y s 0 s
+starts x y w = record { on = omega arith; within = w; so_far = λ e r. record { row = λ vs us e f g h k l. r.row vs us e f g h (omega (arith, k)) (omega (arith, l)) } }
+
+module _ {wa pa wb pb : List ℕ} {x y : ℕ} {s : Walk} {k : ℕ} {here : Walk} (w : Walking wa pa wb pb x y s k here) where
   abbrev These : Walk → Vals → Vals → Type 0
-  These r vs us = (e f g h : ℕ) → m ≡ val_count vs → n ≡ val_count us → ValuesIn wa pa here.i here.p vs e f → ValuesIn wb pb here.j here.q us g h → Says (cmp_vals vs us) e f g h r
+  These r vs us = (e f g h : ℕ) → x - k ≡ val_count vs → y - k ≡ val_count us → ValuesIn wa pa here.i here.p vs e f → ValuesIn wb pb here.j here.q us g h → Says (cmp_vals vs us) e f g h r
 
-  ends_here_lem : {c : ℕ} {r : Walk} → r ≡ staying c here → ((vs us : Vals) → These (staying c here) vs us) → CompareFields wa pa wb pb s x y r
-  ends_here_lem {c} e go = rw e (record { on = w.on; within = same_places w.within c; says = w.so_far _ (record { row = go }) })
-
-  pub row_none : {r : Walk} → r ≡ staying 0 here → m ≡ 0 → n ≡ 0 → CompareFields wa pa wb pb s x y r
+  -- the shorter record is passed: it comes first
+  pub row_ends : {n : ℕ} → n ≡ min x y → k ≤ n → n ≤ k → {c : Answer} → c ≡ nat_cmp x y → CompareFields wa pa wb pb s x y (staying c here)
   unfolding cmp_val val_count val_words val_pool
-  row_none at y z = ends_here_lem at go
+  row_ends {n} m low high {c} o = record { on = w.on; within = same_places w.within c; says = w.so_far _ (record { row = go }) }
     where
-      go : (vs us : Vals) → These (staying 0 here) vs us
-      go Vals.NoVal Vals.NoVal e f g h k l s t =
-          record { order = refl; ends = λ o. record { at_i = omega (arith, s.words.long); at_p = omega (arith, s.pool.long); at_j = omega (arith, t.words.long); at_q = omega (arith, t.pool.long) } }
-      go Vals.NoVal (Vals.AddVal u us) e f g h k l s t = absurd (omega arith)
-      go (Vals.AddVal v vs) us e f g h k l s t = absurd (omega arith)
+      all : k ≡ min x y
+      all = omega arith
 
-  pub row_less : {r : Walk} → r ≡ staying 1 here → m ≡ 0 → (n ≡ 0 → ⊥) → CompareFields wa pa wb pb s x y r
-  unfolding cmp_val val_count
-  row_less at y z = ends_here_lem at go
-    where
-      go : (vs us : Vals) → These (staying 1 here) vs us
-      go Vals.NoVal Vals.NoVal e f g h k l s t = absurd (z l)
-      go Vals.NoVal (Vals.AddVal u us) e f g h k l s t = record { order = refl; ends = λ o. absurd (omega arith) }
-      go (Vals.AddVal v vs) us e f g h k l s t = absurd (omega arith)
+      go : (vs us : Vals) → These (staying c here) vs us
+      go Vals.NoVal Vals.NoVal e f g h l m s t = record {
+        order = by_cmp x y o ∙ ap (λ (n : ℕ). compare n y) (omega (arith, all)) ∙ alike y;
+        ends = λ o. record { at_i = omega (arith, s.words.long); at_p = omega (arith, s.pool.long); at_j = omega (arith, t.words.long); at_q = omega (arith, t.pool.long) };
+      }
+      go Vals.NoVal (Vals.AddVal u us) e f g h l m s t = let q = by_cmp x y o ∙ less {m = x} {n = y} (omega (arith, all)) in record { order = q; ends = λ e. absurd (lower q e) }
+      go (Vals.AddVal v vs) Vals.NoVal e f g h l m s t = let q = by_cmp x y o ∙ more {m = x} {n = y} (omega (arith, all)) in record { order = q; ends = λ e. absurd (higher q e) }
+      go (Vals.AddVal v vs) (Vals.AddVal u us) e f g h l m s t = absurd (omega (arith, all))
 
-  pub row_greater : {r : Walk} → r ≡ staying 2 here → (m ≡ 0 → ⊥) → n ≡ 0 → CompareFields wa pa wb pb s x y r
-  unfolding cmp_val val_count
-  row_greater at y z = ends_here_lem at go
-    where
-      go : (vs us : Vals) → These (staying 2 here) vs us
-      go Vals.NoVal us e f g h k l s t = absurd (y k)
-      go (Vals.AddVal v vs) Vals.NoVal e f g h k l s t = record { order = refl; ends = λ o. absurd (omega arith) }
-      go (Vals.AddVal v vs) (Vals.AddVal u us) e f g h k l s t = absurd (omega arith)
+  module _ {n : ℕ} (least_is : n ≡ min x y) (some : k < n) {first : Walk} (right : CompareValue wa pa wb pb here first) {t : Bool} (kt : t ≡ is_ne first.order) where
+    inner : k < min x y
+    inner = omega arith
 
-  module _ (some : m ≡ 0 → ⊥) (others : n ≡ 0 → ⊥) {first : Walk} (right : CompareValue wa pa wb pb here first) where
-    pub row_apart : (first.order ≡ 0 → ⊥) → CompareFields wa pa wb pb s x y first
+    pub row_apart : t ≡ true → CompareFields wa pa wb pb s x y first
     unfolding cmp_val val_count
     row_apart d = record { on = omega (arith, w.on, right.on); within = right.within; says = w.so_far _ (record { row = go }) }
       where
         go : (vs us : Vals) → These first vs us
-        go Vals.NoVal us e f g h k l s t = absurd (some k)
-        go (Vals.AddVal v vs) Vals.NoVal e f g h k l s t = absurd (others l)
+        go Vals.NoVal us e f g h k l s t = absurd (omega (arith, inner))
+        go (Vals.AddVal v vs) Vals.NoVal e f g h k l s t = absurd (omega (arith, inner))
         go (Vals.AddVal v vs) (Vals.AddVal u us) e f g h k l s t =
             let o = right.says.one v u _ _ _ _ (field_in wa pa here.i here.p e f v vs s).0 (field_in wb pb here.j here.q g h u us t).0 in
-            let w = decided (cmp_val v u) (cmp_vals vs us) (λ c. d (o.order ∙ c)) in
-            record { order = o.order ∙ ap code (sym w); ends = λ c. absurd (d c) }
+            let w = decided first.order (cmp_val v u) (cmp_vals vs us) o.order (unequal kt d) in
+            record { order = o.order ∙ sym w; ends = λ c. absurd (unequal kt d c) }
 
-    pub row_next : first.order ≡ 0 → Walking wa pa wb pb x y s (m - 1) (n - 1) first
+    pub row_next : t ≡ false → Walking wa pa wb pb x y s (k + 1) first
     unfolding cmp_val val_count
     row_next d = record { on = omega (arith, w.on, right.on); within = right.within; so_far = λ r rest. w.so_far r (record { row = go r rest }) }
       where
-        go : (r : Walk) → Row wa pa wb pb (m - 1) (n - 1) first.i first.p first.j first.q r → (vs us : Vals) → These r vs us
-        go r rest Vals.NoVal us e f g h k l s t = absurd (some k)
-        go r rest (Vals.AddVal v vs) Vals.NoVal e f g h k l s t = absurd (others l)
-        go r rest (Vals.AddVal v vs) (Vals.AddVal u us) e f g h k l s t =
+        go : (r : Walk) → Row wa pa wb pb (x - (k + 1)) (y - (k + 1)) first.i first.p first.j first.q r → (vs us : Vals) → These r vs us
+        go r rest Vals.NoVal us e f g h l m s t = absurd (omega (arith, inner))
+        go r rest (Vals.AddVal v vs) Vals.NoVal e f g h l m s t = absurd (omega (arith, inner))
+        go r rest (Vals.AddVal v vs) (Vals.AddVal u us) e f g h l m s t =
             let x = field_in wa pa here.i here.p e f v vs s in
             let w = field_in wb pb here.j here.q g h u us t in
             let o = right.says.one v u _ _ _ _ x.0 w.0 in
-            let c = o.ends d in
-            rw (code_eq (cmp_val v u) (sym o.order ∙ d))
-            (rest.row vs us e f g h (omega arith) (omega arith) (rw (c.at_i, c.at_p) x.1) (rw (c.at_j, c.at_q) w.1))
+            let c = o.ends (equal kt d) in
+            rw (sym o.order ∙ ap order_of (equal kt d))
+            (rest.row vs us e f g h (omega (arith, inner)) (omega (arith, inner)) (rw (c.at_i, c.at_p) x.1) (rw (c.at_j, c.at_q) w.1))

@@ -1,7 +1,6 @@
 -- What the call answers, by the verdicts on both sheets and by the walk's answer.
 use Rattle.std.proofs.Common.{◌≡◌, ℕ, Bool, true, false, not, List, length, sym, refl, ap, ◌∙◌, arith}
 use mathlib.Core.Option.{Option, some, none}
-use Prim.Native.Nat.{Ordering}
 use borrow.Author.Tests.{not-true, not-false}
 use Rattle.format.specs.Answer.{ok, refused}
 use Rattle.format.specs.TypeSheet.{is_some}
@@ -11,23 +10,8 @@ use Rattle.format.specs.Calls.{compare_call}
 use Rattle.format.proofs.ValueLaws.{its_tree, admitted}
 use Rattle.format.proofs.ValuePlaces.{top}
 use Rattle.order.specs.declared.Walk.{Walk}
-use Rattle.order.specs.Compare.{code, standing, CompareValue}
-
-same_code : (o u : Ordering) → code o ≡ code u → o ≡ u
-same_code Ordering.lt Ordering.lt h = refl
-same_code Ordering.lt Ordering.eq h = absurd (omega arith)
-same_code Ordering.lt Ordering.gt h = absurd (omega arith)
-same_code Ordering.eq Ordering.lt h = absurd (omega arith)
-same_code Ordering.eq Ordering.eq h = refl
-same_code Ordering.eq Ordering.gt h = absurd (omega arith)
-same_code Ordering.gt Ordering.lt h = absurd (omega arith)
-same_code Ordering.gt Ordering.eq h = absurd (omega arith)
-same_code Ordering.gt Ordering.gt h = refl
-
-third : (o : Ordering) → (code o ≡ 0 → ⊥) → (code o ≡ 1 → ⊥) → 2 ≡ code o
-third Ordering.lt h k = absurd (k refl)
-third Ordering.eq h k = absurd (h refl)
-third Ordering.gt h k = refl
+use Rattle.blocks.specs.Compare.{order_of}
+use Rattle.order.specs.Compare.{CompareValue}
 
 none_of : {A : Type 0} (o : Option A) → is_some o ≡ false → o ≡ none
 none_of (some a) h = let z : ◌≡◌ {A = ℕ} 0 1 = cc in absurd (omega arith)
@@ -49,22 +33,13 @@ module _ (wa pa wb pb : List ℕ) {first : Bool} (ea : first ≡ is_some (value_
     good_b : not second ≡ false → is_some (value_of wb pb) ≡ true
     good_b h = sym eb ∙ not-false second h
 
-    module _ (hb : not second ≡ false) {from r : Walk} (walk : CompareValue wa pa wb pb from r) (start : from ≡ standing 0 0 0 0 0) where
-      verdict : (o : Ordering) × (compare_call wa pa wb pb ≡ ok o) × (r.order ≡ code o)
+    module _ (hb : not second ≡ false) {from r : Walk} (walk : CompareValue wa pa wb pb from r) (at_i : from.i ≡ 0) (at_p : from.p ≡ 0) (at_j : from.j ≡ 0) (at_q : from.q ≡ 0) where
+      pub said : ok (order_of r.order) ≡ compare_call wa pa wb pb
       unfolding compare_call
-      verdict =
+      said =
           let s = its_tree wa pa (good_a ha) in
           let t = its_tree wb pb (good_b hb) in
           let a = s.0 in
           let b = t.0 in
-          let m = rw start at walk in (
-            cmp_val a b,
-            rw ((admitted wa pa a).1 s.1, (admitted wb pb b).1 t.1),
-            (m.says.one a b (length wa) (length pa) (length wb) (length pb) (top wa pa a s.1) (top wb pb b t.1)).order,
-          )
-
-      pub said : (o : Ordering) → r.order ≡ code o → ok o ≡ compare_call wa pa wb pb
-      said o h = let v = verdict in ap ok (same_code o v.0 (sym h ∙ v.2)) ∙ sym v.1
-
-      pub said_greater : (r.order ≡ 0 → ⊥) → (r.order ≡ 1 → ⊥) → ok Ordering.gt ≡ compare_call wa pa wb pb
-      said_greater h k = let v = verdict in said Ordering.gt (v.2 ∙ sym (third v.0 (λ z. h (v.2 ∙ z)) (λ z. k (v.2 ∙ z))))
+          let m = rw (at_i, at_p, at_j, at_q) at walk.says in
+          rw ((admitted wa pa a).1 s.1, (admitted wb pb b).1 t.1) (ap ok (m.one a b (length wa) (length pa) (length wb) (length pb) (top wa pa a s.1) (top wb pb b t.1)).order)

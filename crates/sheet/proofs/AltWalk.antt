@@ -12,6 +12,9 @@ use Rattle.format.specs.TypeSheet.{max_groups, type_at, nesting, alt_nestings}
 use Rattle.format.specs.Search.{looked}
 use Rattle.format.proofs.TypePlaces.{TypeIn, AltsIn, union_in, alt_in}
 use Rattle.format.proofs.Choose.{choose}
+use Rattle.std.specs.Prelude.{Some, None}
+use Rattle.std.specs.Prelude as std
+use Rattle.std.proofs.lemmas.Option.{none-some, same_Some}
 use Rattle.sheet.specs.Places.{Ends, Chosen, Searches}
 use Rattle.sheet.proofs.EndLaws.{end_is}
 
@@ -26,9 +29,8 @@ pub record Same (tag seen : ℕ) (us more : Alts) : Type 0 where
   pub choice : choose tag us ≡ choose tag more
   pub looks : looked tag us ≡ seen + looked tag more
 
--- of every union at `at`, the alternatives that are left stand at the place, and decide; the counter has room for them
+-- of every union at `at`, the alternatives that are left stand at the place, and decide
 pub record Left (w : List ℕ) (at tag left seen place : ℕ) : Type 0 where
-  pub few : seen + left < 2 ^ 32
   pub rest : (us : Alts) (e : ℕ) → TypeIn w at (Ty.Union us) e → nesting (Ty.Union us) ≤ max_groups → (more : Alts) × Rest w e left place more × Same tag seen us more
 
 -- the next of them: its tag and type, and what is left behind it
@@ -83,58 +85,62 @@ module _ {tag seen : ℕ} {us more : Alts} (s : Same tag seen us more) where
     past h = let b = ne_eqb d tag h in record { choice = rw (s.choice, is, b); looks = rw (s.looks, is, b) (omega arith) }
 
 module _ (w : List ℕ) (at tag : ℕ) where
-  answers : {r l n : ℕ} → ((us : Alts) (e : ℕ) → TypeIn w at (Ty.Union us) e → nesting (Ty.Union us) ≤ max_groups → Chosen w e r l (choose tag us) × (n ≡ looked tag us)) → Searches w at tag r l n
+  answers : {r : std.Option ℕ} {l n : ℕ} → ((us : Alts) (e : ℕ) → TypeIn w at (Ty.Union us) e → nesting (Ty.Union us) ≤ max_groups → Chosen w e r l (choose tag us) × (n ≡ looked tag us)) → Searches w at tag r l n
   answers f = record { picks = record { picks = λ us e s d. (f us e s d).0 }; looks = λ us e s d. (f us e s d).1 }
 
-  pub no_union : (l n : ℕ) → length w - at < 2 → Searches w at tag 0 l n
+  pub no_union : (l n : ℕ) → length w - at < 2 → Searches w at tag None l n
   no_union l n h = answers (λ us e s d. absurd (omega (arith, (union_in w at e us s).0)))
 
-  pub all_left : get_or w (at + 1) 0 < 2 ^ 32 → Left w at tag (get_or w (at + 1) 0) 0 (at + 2)
+  pub all_left : Left w at tag (get_or w (at + 1) 0 - 0) 0 (at + 2)
   unfolding nesting
-  all_left h =
+  all_left =
       record {
-        few = omega arith;
-        rest = λ us e s d. let f = union_in w at e us s in (us, record { stand = f.2; count = sym f.1; deep = omega arith }, record { choice = refl; looks = omega arith });
+        rest = λ us e s d.
+            let f = union_in w at e us s in
+            let same : alt_count us ≡ get_or w (at + 1) 0 - 0 = omega (arith, f.1) in (us, record { stand = f.2; count = same; deep = omega arith }, record { choice = refl; looks = omega arith });
       }
 
-  module _ (left seen place : ℕ) (inv : Left w at tag left seen place) where
-    pub none_left : (l : ℕ) → left ≡ 0 → Searches w at tag 0 l seen
-    none_left l h =
+  -- of `count`, k are passed
+  module _ {count k place : ℕ} (inv : Left w at tag (count - k) k place) where
+    pub none_left : (l : ℕ) → k ≤ count → count ≤ k → Searches w at tag None l count
+    none_left l m h =
         answers (λ us e s d.
         let f = inv.rest us e s d in
-        let z = at_end f.2 (f.1.count ∙ h) in (rw z.0 refl, z.1))
+        let z = at_end f.2 (f.1.count ∙ omega arith) in (rw z.0 refl, omega (arith, z.1)))
 
-    module _ (some_left : left ≡ 0 → ⊥) where
-      pub no_room : (l n : ℕ) → length w ≤ place → Searches w at tag 0 l n
+    module _ (more : k < count) where
+      some_left : count - k ≡ 0 → ⊥
+      some_left z = omega arith
+
+      pub no_room : (l n : ℕ) → length w ≤ place → Searches w at tag None l n
       no_room l n h = answers (λ us e s d. let here = (next some_left (inv.rest us e s d).1).here in absurd (omega arith))
 
-      pub picked : (x : ℕ) → x ≡ get_or w place 0 → x ≡ tag → Searches w at tag (place + 1) (left - 1) (seen + 1)
-      picked x same h =
+      pub picked : get_or w place 0 ≡ tag → Searches w at tag (Some (place + 1)) (count - k - 1) (k + 1)
+      picked h =
           answers (λ us e s d.
           let f = inv.rest us e s d in
           let n = next some_left f.1 in
-          let z = at_tag f.2 n.is (sym n.word ∙ sym same ∙ h) in (
-            rw z.0 (omega arith, place + 1 + length (ty_words n.type), n.stands, n.rest.stand, n.rest.count),
+          let z = at_tag f.2 n.is (sym n.word ∙ h) in (
+            rw z.0 (place + 1 + length (ty_words n.type), n.stands, n.rest.stand, n.rest.count),
             z.1,
           ))
 
       -- the end that was found is the next alternative's
-      module _ (r : ℕ) (end : Ends w (place + 1 + 1) (type_at max_groups (drop (place + 1) w)) r) where
-        found : {e : ℕ} {more : Alts} (n : Next w e left place more) → r ≡ place + 1 + length (ty_words n.type)
-        found n = end_is w (place + 1) (place + 1 + length (ty_words n.type)) r max_groups n.type n.stands n.shallow end
+      found : {o : std.Option ℕ} → Ends w (place + 1 + 1) (type_at max_groups (drop (place + 1) w)) o → {e : ℕ} {more : Alts} (n : Next w e (count - k) place more) → o ≡ Some (place + 1 + length (ty_words n.type))
+      found end n = end_is w (place + 1) (place + 1 + length (ty_words n.type)) max_groups n.type n.stands n.shallow end
 
-        pub no_end : (l n : ℕ) → r ≡ 0 → Searches w at tag 0 l n
-        no_end l n z = answers (λ us e s d. absurd (omega (arith, found (next some_left (inv.rest us e s d).1))))
+      pub no_end : (l n : ℕ) → Ends w (place + 1 + 1) (type_at max_groups (drop (place + 1) w)) None → Searches w at tag None l n
+      no_end l n end = answers (λ us e s d. absurd (none-some _ (found end (next some_left (inv.rest us e s d).1))))
 
-        pub go_on : (x : ℕ) → x ≡ get_or w place 0 → (x ≡ tag → ⊥) → Left w at tag (left - 1) (seen + 1) r
-        go_on x same other =
-            record {
-              few = let h = inv.few in omega (arith, some_left);
-              rest = λ us e s d.
-                  let f = inv.rest us e s d in
-                  let n = next some_left f.1 in (
-                    n.behind,
-                    subst (λ (p : ℕ). Rest w e (left - 1) p n.behind) (sym (found n)) n.rest,
-                    past f.2 n.is (λ z. other (same ∙ n.word ∙ z)),
-                  );
-            }
+      pub go_on : {r : ℕ} → Ends w (place + 1 + 1) (type_at max_groups (drop (place + 1) w)) (Some r) → (get_or w place 0 ≡ tag → ⊥) → Left w at tag (count - (k + 1)) (k + 1) r
+      go_on {r} end other =
+          record {
+            rest = λ us e s d.
+                let f = inv.rest us e s d in
+                let n = next some_left f.1 in
+                let l : count - k - 1 ≡ count - (k + 1) = omega arith in (
+                  n.behind,
+                  rw (← l, same_Some _ _ (found end n)) n.rest,
+                  past f.2 n.is (λ z. other (n.word ∙ z)),
+                );
+          }

@@ -12,7 +12,7 @@ use Rattle.format.specs.Tree.{Val, Vals}
 use Rattle.format.specs.Utf8.{utf8}
 use Rattle.format.specs.ValueSheet.{Parts, got, no, map, after, only, bytes, any, one_value, values, value_at}
 use Rattle.format.proofs.SheetPlaces.{front, front2}
-use Rattle.sheet.specs.Places.{ValueEnds, RunEnds}
+use Rattle.sheet.specs.Places.{EndsAt, RunEnds}
 
 abbrev ReadFields : Type 0
 ReadFields = ℕ → List ℕ → List ℕ → Parts Vals
@@ -111,16 +111,16 @@ module _ (f : List ℕ → Val) (t : List ℕ → Bool) (x : ℕ) (r b : List �
   bytes_bad h u = rw (le-leb x (length b) h, u)
 
 -- a group ends where its fields or its payload do, and a run where what follows its first does
-ends_map : {A B : Type 0} (f : A → B) (w b : List ℕ) (low high from used r q : ℕ) (x : Parts A) → low ≤ high → from ≤ used → ValueEnds w b high used x r q → ValueEnds w b low from (map f x) r q
+ends_map : {A B : Type 0} (f : A → B) (w b : List ℕ) (low high from used r q : ℕ) (x : Parts A) → low ≤ high → from ≤ used → EndsAt w b high used x r q → EndsAt w b low from (map f x) r q
 ends_map f w b low high from used r q (got a s c) h k e = (e.0, e.1, omega (arith, e.2), e.3, omega (arith, e.4), e.5)
 ends_map f w b low high from used r q no h k e = e
 
 module _ (w b : List ℕ) (at from g : ℕ) where
   abbrev Finds : ℕ → ℕ → Type 0
-  Finds r q = ValueEnds w b (at + 1) from (value_at g (drop at w) (drop from b)) r q
+  Finds r q = EndsAt w b (at + 1) from (value_at g (drop at w) (drop from b)) r q
 
-  finds : (r q : ℕ) (x : Parts Val) → value_at g (drop at w) (drop from b) ≡ x → ValueEnds w b (at + 1) from x r q → Finds r q
-  finds r q x e h = subst (λ (y : Parts Val). ValueEnds w b (at + 1) from y r q) (sym e) h
+  finds : (r q : ℕ) (x : Parts Val) → value_at g (drop at w) (drop from b) ≡ x → EndsAt w b (at + 1) from x r q → Finds r q
+  finds r q x e h = subst (λ (y : Parts Val). EndsAt w b (at + 1) from y r q) (sym e) h
 
   pub none_left : (q : ℕ) → length w ≤ at → Finds 0 q
   none_left q h =
@@ -218,7 +218,7 @@ module _ (w b : List ℕ) (at from g : ℕ) where
         finds 0 q no (o.2 ∙ one_unknown o.0 o.1 (drop from b) (get_or w at 0) (drop (at + 1) w) k) refl
 
     module _ (gz : g ≡ 0 → ⊥) where
-      pub record_end : (r q : ℕ) → get_or w at 0 ≡ 5 → ValueEnds w b (at + 2 + more) from (values (value_at (g - 1)) more behind (drop from b)) r q → Finds r q
+      pub record_end : (r q : ℕ) → get_or w at 0 ≡ 5 → EndsAt w b (at + 2 + more) from (values (value_at (g - 1)) more behind (drop from b)) r q → Finds r q
       record_end r q k e =
           let s : g ≡ suc (g - 1) = omega arith in
           finds r q (map Val.Record (values (value_at (g - 1)) more behind (drop from b)))
@@ -235,14 +235,10 @@ module _ (w b : List ℕ) (at from g : ℕ) where
         pub big_tag : (q : ℕ) → 2 ^ 32 ≤ more → Finds 0 q
         big_tag q h = finds 0 q no (is_union false (le-ltb more (2 ^ 32) h)) refl
 
-        pub payload : (r q : ℕ) → more < 2 ^ 32 → ValueEnds w b (at + 2 + 1) from (value_at (g - 1) behind (drop from b)) r q → Finds r q
+        pub payload : (r q : ℕ) → more < 2 ^ 32 → EndsAt w b (at + 2 + 1) from (value_at (g - 1) behind (drop from b)) r q → Finds r q
         payload r q h e =
             finds r q (map (Val.Union more) (value_at (g - 1) behind (drop from b))) (is_union true (lt-ltb more (2 ^ 32) h))
             (ends_map (Val.Union more) w b (at + 1) (at + 2 + 1) from from r q (value_at (g - 1) behind (drop from b)) (omega arith) (omega arith) e)
-
--- what is no Null and no Int, as their tests say, has a kind above theirs
-pub is_run : (k : ℕ) → (k ≡ 0 → ⊥) → eqb k 1 ≡ false → 1 < k
-is_run k n0 n1 = omega (arith, eqb-false k 1 n1)
 
 -- a Str or Bytes ends alike whatever the groups
 module _ (w b : List ℕ) (at from : ℕ) (next : at + 1 < length w) (low : 1 < get_or w at 0) (high : get_or w at 0 < 4) where
@@ -273,49 +269,50 @@ module _ (w b : List ℕ) (at from : ℕ) (next : at + 1 < length w) (low : 1 < 
 
 -- `count` values from `at` and `from` on end at r and q
 abbrev Fits : List ℕ → List ℕ → ℕ → ℕ → ℕ → ℕ → ℕ → ℕ → Type 0
-Fits w b g at from count r q = ValueEnds w b (at + count) from (values (value_at g) count (drop at w) (drop from b)) r q
+Fits w b g at from count r q = EndsAt w b (at + count) from (values (value_at g) count (drop at w) (drop from b)) r q
 
--- of `count` values from `at` and `from` on, `left` are left from `place` and `used` on: all end where those do
-pub record Fields (w b : List ℕ) (at from count g left place used : ℕ) : Type 0 where
+-- of `count` values from `at` and `from` on, the first k end before `place` and `used`: all end where those behind them do
+pub record Fields (w b : List ℕ) (at from count g k place used : ℕ) : Type 0 where
   pub high : place ≤ length w
   pub until : used ≤ length b
-  pub ends : (r q : ℕ) → Fits w b g place used left r q → Fits w b g at from count r q
+  pub ends : (r q : ℕ) → Fits w b g place used (count - k) r q → Fits w b g at from count r q
 
-pub fields_start : (w b : List ℕ) (at from count g : ℕ) → at ≤ length w → from ≤ length b → Fields w b at from count g count at from
-fields_start w b at from count g h k = record { high = h; until = k; ends = λ r q e. e }
+pub fields_start : (w b : List ℕ) (at from count g : ℕ) → at ≤ length w → from ≤ length b → Fields w b at from count g 0 at from
+fields_start w b at from count g h k = record { high = h; until = k; ends = λ r q e. subst (λ (n : ℕ). Fits w b g at from n r q) (omega arith) e }
 
-module _ (w b : List ℕ) (at from count g left place used : ℕ) (f : Fields w b at from count g left place used) where
-  ends_as : (n r q : ℕ) → n ≡ left → Fits w b g place used n r q → Fits w b g at from count r q
+module _ {w b : List ℕ} {at from count g k place used : ℕ} (f : Fields w b at from count g k place used) where
+  ends_as : (n r q : ℕ) → n ≡ count - k → Fits w b g place used n r q → Fits w b g at from count r q
   ends_as n r q l h = f.ends r q (subst (λ (m : ℕ). Fits w b g place used m r q) l h)
 
-  pub fields_done : left ≤ 0 → Fits w b g at from count place used
+  pub fields_done : k ≤ count → count ≤ k → Fits w b g at from count place used
   unfolding values
-  fields_done h = ends_as 0 place used (omega arith) (refl, refl, omega arith, f.high, omega arith, f.until)
+  fields_done l h = ends_as 0 place used (omega arith) (refl, refl, omega arith, f.high, omega arith, f.until)
 
-  module _ (r q : ℕ) (more : 0 < left) where
+  module _ (r q : ℕ) (more : k < count) where
     -- the run that is left, by what its next value is
     abbrev Then : Parts Val → ℕ → ℕ → Type 0
-    Then x = ValueEnds w b (place + suc (left - 1)) used (after x (λ v s c. map (Vals.AddVal v) (values (value_at g) (left - 1) s c)))
+    Then x = EndsAt w b (place + suc (count - (k + 1))) used (after x (λ v s c. map (Vals.AddVal v) (values (value_at g) (count - (k + 1)) s c)))
 
-    missed : (u : ℕ) (x : Parts Val) → ValueEnds w b (place + 1) used x r q → r ≡ 0 → Then x 0 u
+    missed : (u : ℕ) (x : Parts Val) → EndsAt w b (place + 1) used x r q → r ≡ 0 → Then x 0 u
     missed u (got v s c) e z = absurd (omega (arith, e.2))
     missed u no e z = refl
 
-    passed : (x : Parts Val) → ValueEnds w b (place + 1) used x r q → (r ≡ 0 → ⊥) → (r ≤ length w) × (q ≤ length b) × ((n m : ℕ) → Fits w b g r q (left - 1) n m → Then x n m)
+    passed : (x : Parts Val) → EndsAt w b (place + 1) used x r q → (r ≡ 0 → ⊥) → (r ≤ length w) × (q ≤ length b) × ((n m : ℕ) → Fits w b g r q (count - (k + 1)) n m → Then x n m)
     passed (got v s c) e z =
-        let rest = values (value_at g) (left - 1) in
+        let left : ℕ = count - (k + 1) in
+        let rest = values (value_at g) left in
         let same : rest (drop r w) (drop q b) ≡ rest s c = cc (e.0, e.1) in
-        let ends : (n m : ℕ) → Fits w b g r q (left - 1) n m → ValueEnds w b (r + (left - 1)) q (rest s c) n m = λ n m h. subst (λ (x : Parts Vals). ValueEnds w b (r + (left - 1)) q x n m) same h in
-        (e.3, e.5, λ n m h. ends_map (Vals.AddVal v) w b (place + suc (left - 1)) (r + (left - 1)) used q n m (rest s c) (omega (arith, e.2)) e.4 (ends n m h))
+        let ends : (n m : ℕ) → Fits w b g r q left n m → EndsAt w b (r + left) q (rest s c) n m = λ n m h. subst (λ (x : Parts Vals). EndsAt w b (r + left) q x n m) same h in
+        (e.3, e.5, λ n m h. ends_map (Vals.AddVal v) w b (place + suc left) (r + left) used q n m (rest s c) (omega (arith, e.2)) e.4 (ends n m h))
     passed no e z = absurd (z e)
 
-    module _ (e : ValueEnds w b (place + 1) used (value_at g (drop place w) (drop used b)) r q) where
-      pub fields_fail : (u : ℕ) → r ≡ 0 → Fits w b g at from count 0 u
+    module _ (e : EndsAt w b (place + 1) used (value_at g (drop place w) (drop used b)) r q) where
+      pub fields_fail : r ≡ 0 → Fits w b g at from count 0 0
       unfolding values
-      fields_fail u z = ends_as (suc (left - 1)) 0 u (omega arith) (missed u (value_at g (drop place w) (drop used b)) e z)
+      fields_fail z = ends_as (suc (count - (k + 1))) 0 0 (omega arith) (missed 0 (value_at g (drop place w) (drop used b)) e z)
 
-      pub fields_go : (r ≡ 0 → ⊥) → Fields w b at from count g (left - 1) r q
+      pub fields_go : (r ≡ 0 → ⊥) → Fields w b at from count g (k + 1) r q
       unfolding values
       fields_go z =
           let n = passed (value_at g (drop place w) (drop used b)) e z in
-          record { high = n.0; until = n.1; ends = λ m k h. ends_as (suc (left - 1)) m k (omega arith) (n.2 m k h) }
+          record { high = n.0; until = n.1; ends = λ m j h. ends_as (suc (count - (k + 1))) m j (omega arith) (n.2 m j h) }

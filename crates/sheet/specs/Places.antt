@@ -16,15 +16,20 @@ Ends w low (got a s) (Some r) = (s ≡ drop r w) × (low ≤ r) × (r ≤ length
 Ends w low (got a s) None = ⊥
 Ends w low no o = o ≡ None
 
--- words end before the place r and their bytes before the place q, which are at least low and from; None where nothing was read
+-- words end before the place r and their bytes before the place q, which are at least low and from; r is 0 where nothing was read
+abbrev pub EndsAt : {A : Type 0} → List ℕ → List ℕ → ℕ → ℕ → Parts A → ℕ → ℕ → Type 0
+EndsAt w b low from (Parts.got a s c) r q = (s ≡ drop r w) × (c ≡ drop q b) × (low ≤ r) × (r ≤ length w) × (from ≤ q) × (q ≤ length b)
+EndsAt w b low from Parts.no r q = r ≡ 0
+
+-- the same of a place; None where nothing was read
 abbrev pub ValueEnds : {A : Type 0} → List ℕ → List ℕ → ℕ → ℕ → Parts A → Option Place → Type 0
-ValueEnds w b low from (Parts.got a s c) (Some p) = (s ≡ drop p.words w) × (c ≡ drop p.pool b) × (low ≤ p.words) × (p.words ≤ length w) × (from ≤ p.pool) × (p.pool ≤ length b)
+ValueEnds w b low from (Parts.got a s c) (Some p) = EndsAt w b low from (Parts.got a s c) p.words p.pool
 ValueEnds w b low from (Parts.got a s c) None = ⊥
 ValueEnds w b low from Parts.no o = o ≡ None
 
--- o is the end of the Str or Bytes at `at` and of its bytes, which is no group
-pub record RunEnds (w b : List ℕ) (at from : ℕ) (o : Option Place) : Type 0 where
-  pub ends : (g : ℕ) → ValueEnds w b (at + 1) from (value_at g (drop at w) (drop from b)) o
+-- r and q are the ends of the Str or Bytes at `at` and of its bytes, which is no group
+pub record RunEnds (w b : List ℕ) (at from r q : ℕ) : Type 0 where
+  pub ends : (g : ℕ) → EndsAt w b (at + 1) from (value_at g (drop at w) (drop from b)) r q
 
 -- r is the end of whatever type stands at p
 pub record SkipsType (w : List ℕ) (p r : ℕ) : Type 0 where

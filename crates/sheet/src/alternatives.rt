@@ -17,42 +17,40 @@ pub struct Choice {
 pub fn alternative(ty: &[u32], at: usize, tag: u64) -> Choice
     ensures { Searches ty.now at tag result.place result.left result.looked }
 {
+    let none = Choice {
+        place: None,
+        left: 0,
+        looked: 0,
+    };
     if at >= ty.len() || ty.len() - at < 2 {
-        return Choice {
-            place: None,
-            left: 0,
-            looked: 0,
-        };
+        return none;
     }
-    let mut left = ty[at + 1];
-    let mut looked: u32 = 0;
+    let count = ty[at + 1];
     let mut place = at + 2;
-    let found = loop {
-        if left == 0 {
-            break None;
-        }
+    for passed in 0..count {
         if place >= ty.len() {
-            break None;
+            return none;
         }
-        left -= 1;
-        looked += 1;
         let inside = place + 1;
         if u64::from(ty[place]) == tag {
-            break Some(inside);
+            return Choice {
+                place: Some(inside),
+                left: count - passed - 1,
+                looked: passed + 1,
+            };
         }
         match type_end(ty, inside, format::MAX_SHEET_GROUPS) {
             Some(end) => place = end,
-            None => break None,
+            None => return none,
         }
-    };
+    }
     Choice {
-        place: found,
-        left,
-        looked,
+        looked: count,
+        ..none
     }
 }
 
-// The place behind `count` alternatives from `at` on, of an admitted sheet.
+// The place behind `count` alternatives from `at` on, of an admitted sheet, where it is never none.
 pub fn skip_alternatives(ty: &[u32], at: usize, count: u32) -> usize
     ensures { SkipsAlts ty.now at count result }
 {

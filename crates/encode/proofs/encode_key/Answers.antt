@@ -19,35 +19,35 @@ returns-in_err-admit c =
 pub fit_key-requires : goal.fit_key-requires
 fit_key-requires c = sheets _ _ _ c.in_ok-admit.ensures
 
-pub returns-in_err-length : goal.returns-in_err-length
+pub returns-in_err-len : goal.returns-in_err-len
 unfolding encode_key_call encode_key_zeros
-returns-in_err-length c =
+returns-in_err-len c =
     let s = sheets _ _ _ c.in_ok-admit.ensures in
-    let p = err_from_is_err_and c.from_residual-in_err-length.result c.from_residual-in_err-length.ensures.1 in
-    rw (p.1, p.2) (refuses encode_key s _ (key_refused s c.in_err-length.ensures))
+    let p = err_from_is_err_and c.from_residual-in_err-len.result c.from_residual-in_err-len.ensures.1 in
+    rw (p.1, p.2) (refuses encode_key s _ (key_refused s c.in_err-len.ensures))
 
-pub returns-then-length-gt-MAX_KEY_BYTES : goal.returns-then-length-gt-MAX_KEY_BYTES
+pub returns-then-len-gt-MAX_KEY_BYTES : goal.returns-then-len-gt-MAX_KEY_BYTES
 unfolding encode_key_call encode_key_zeros
-returns-then-length-gt-MAX_KEY_BYTES c =
+returns-then-len-gt-MAX_KEY_BYTES c =
     let s = sheets _ _ _ c.in_ok-admit.ensures in
-    let b = said_ok _ c.in_ok-length.ensures in
+    let b = said_ok _ c.in_ok-len.ensures in
     refuses encode_key s _ (key_long s b.1 (omega (arith, b.2)) ∙ ap (refused KeyTooLong) (sym b.2))
 
-pub returns-then-out-length : goal.returns-then-out-length
+pub returns-then-out-len : goal.returns-then-out-len
 unfolding encode_key_call encode_key_zeros
-returns-then-out-length c =
+returns-then-out-len c =
     let s = sheets _ _ _ c.in_ok-admit.ensures in
-    let b = said_ok _ c.in_ok-length.ensures in
-    no_room encode_key s _ (key_short s b.1 (omega (arith, b.2))) b.2 c.if-out-length.true (omega arith)
+    let b = said_ok _ c.in_ok-len.ensures in
+    no_room encode_key s _ (key_short s b.1 (omega (arith, b.2))) b.2 c.if-out-len.true (omega arith)
 
 pub put_key-zeros-requires : goal.put_key-zeros-requires
 put_key-zeros-requires c =
-    let b = said_ok _ c.in_ok-length.ensures in
+    let b = said_ok _ c.in_ok-len.ensures in
     record { sheets = sheets _ _ _ c.in_ok-admit.ensures; bytes = b.0; is = b.1 }
 
 pub returns : goal.returns
 unfolding encode_key_call encode_key_zeros
 returns c =
     let s = sheets _ _ _ c.in_ok-admit.ensures in
-    let b = said_ok _ c.in_ok-length.ensures in
-    done encode_key s _ (key_short s b.1 (omega (arith, b.2))) b.2 key_pool c.if-out-length.false (c.put_key-zeros.ensures.wrote b.0 b.1)
+    let b = said_ok _ c.in_ok-len.ensures in
+    done encode_key s _ (key_short s b.1 (omega (arith, b.2))) b.2 key_pool c.if-out-len.false (c.put_key-zeros.ensures.wrote b.0 b.1)

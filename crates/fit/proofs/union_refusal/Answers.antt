@@ -22,4 +22,4 @@ unfolding in_union
 returns-in-BadRecord c = elim c.in-BadRecord.is [ inl w ↦ rw w | inr w ↦ rw w.1 ]
 
 pub returns-in_default : goal.returns-in_default
-returns-in_default c = kept c.args.tag c.args.why c.in_default.not-BadRecord c.in_default.not-TypeMismatch
+returns-in_default c = search kept

@@ -1,21 +1,17 @@
-use Rattle.std.proofs.Common.{rules}
 use Rattle.order.proofs.Steps as laws
 use Rattle.order.proofs.+compares.Goals as goal
 
-pub compare_fields-returns-then-n-eq0 : goal.compare_fields-returns-then-n-eq0
-compare_fields-returns-then-n-eq0 t c = search laws.row_none
+pub compare_fields-loop-init : goal.compare_fields-loop-init
+compare_fields-loop-init t c = search laws.starts
 
-pub compare_fields-returns-then-m-eq0 : goal.compare_fields-returns-then-m-eq0
-compare_fields-returns-then-m-eq0 t c = search laws.row_less
+pub compare_fields-returns-then-is_ne : goal.compare_fields-returns-then-is_ne
+compare_fields-returns-then-is_ne t c = search laws.row_apart
 
-pub compare_fields-returns-then-n-eq0-2 : goal.compare_fields-returns-then-n-eq0-2
-compare_fields-returns-then-n-eq0-2 t c = search laws.row_greater
+pub compare_fields-loop-preserved : goal.compare_fields-loop-preserved
+compare_fields-loop-preserved t c = search laws.row_next
 
-pub compare_fields-returns-then-here-ne0 : goal.compare_fields-returns-then-here-ne0
-compare_fields-returns-then-here-ne0 t c = search laws.row_apart
-
-pub compare_fields-loop-m-preserved : goal.compare_fields-loop-m-preserved
-compare_fields-loop-m-preserved t c = search laws.row_next
+pub compare_fields-returns : goal.compare_fields-returns
+compare_fields-returns t c = laws.row_ends c.loop.invariant c.min-end.ensures c.loop.auto.counter-end c.loop-test.false c.cmp.ensures
 
 pub compare_value-returns-then-wa-i : goal.compare_value-returns-then-wa-i
 compare_value-returns-then-wa-i t c = search laws.gone_a
@@ -23,32 +19,26 @@ compare_value-returns-then-wa-i t c = search laws.gone_a
 pub compare_value-returns-then-wb-j : goal.compare_value-returns-then-wb-j
 compare_value-returns-then-wb-j t c = search laws.gone_b
 
-pub compare_value-returns-then-kinds-ne0 : goal.compare_value-returns-then-kinds-ne0
-compare_value-returns-then-kinds-ne0 t c = search laws.apart
+pub compare_value-returns-then-is_ne : goal.compare_value-returns-then-is_ne
+compare_value-returns-then-is_ne t c = search laws.apart
 
 pub compare_value-returns-then-rank-eq-RANK_NULL : goal.compare_value-returns-then-rank-eq-RANK_NULL
-compare_value-returns-then-rank-eq-RANK_NULL t c = search laws.null
+compare_value-returns-then-rank-eq-RANK_NULL t c = search (laws.null, laws.both)
 
 pub compare_value-returns-then-wa-i-lt2 : goal.compare_value-returns-then-wa-i-lt2
-compare_value-returns-then-wa-i-lt2 t c = search laws.short_a
+compare_value-returns-then-wa-i-lt2 t c = search (laws.short_a, laws.both)
 
 pub compare_value-returns-then-wb-j-lt2 : goal.compare_value-returns-then-wb-j-lt2
-compare_value-returns-then-wb-j-lt2 t c = search laws.short_b
-
-pub compare_value-compare_fields-requires : goal.compare_value-compare_fields-requires
-compare_value-compare_fields-requires t c = rw c.stand-fields.ensures (search rules)
+compare_value-returns-then-wb-j-lt2 t c = search (laws.short_b, laws.both)
 
 pub compare_value-returns-then-rank-eq-RANK_RECORD : goal.compare_value-returns-then-rank-eq-RANK_RECORD
-compare_value-returns-then-rank-eq-RANK_RECORD t c = search laws.a_record
+compare_value-returns-then-rank-eq-RANK_RECORD t c = search (laws.a_record, laws.both)
 
-pub compare_value-returns-then-tags-ne0 : goal.compare_value-returns-then-tags-ne0
-compare_value-returns-then-tags-ne0 t c = search laws.tags_apart
-
-pub compare_value-compare_value-requires : goal.compare_value-compare_value-requires
-compare_value-compare_value-requires t c = rw c.stand-payload.ensures (search rules)
+pub compare_value-returns-then-is_ne-2 : goal.compare_value-returns-then-is_ne-2
+compare_value-returns-then-is_ne-2 t c = search (laws.tags_apart, laws.both)
 
 pub compare_value-returns-then-rank-eq-RANK_UNION : goal.compare_value-returns-then-rank-eq-RANK_UNION
-compare_value-returns-then-rank-eq-RANK_UNION t c = search laws.a_union
+compare_value-returns-then-rank-eq-RANK_UNION t c = search (laws.a_union, laws.both)
 
 pub compare_value-returns : goal.compare_value-returns
-compare_value-returns t c = search laws.a_scalar
+compare_value-returns t c = search (laws.a_scalar, laws.both)

@@ -10,8 +10,5 @@ decreases-compare_fields l = 2 * (length l.wa.now - l.s.i) + 1
 abbrev pub decreases-compare_value : goal.decreases-compare_value
 decreases-compare_value l = 2 * (length l.wa.now - l.s.i)
 
-abbrev pub invariant-compare_fields-loop-m : goal.invariant-compare_fields-loop-m
-invariant-compare_fields-loop-m l = laws.Walking l.wa l.pa l.wb l.pb l.x l.y l.initial.here l.m l.n l.here
-
-abbrev pub decreases-compare_fields-loop-m : goal.decreases-compare_fields-loop-m
-decreases-compare_fields-loop-m l = l.m
+abbrev pub invariant-compare_fields-loop : goal.invariant-compare_fields-loop
+invariant-compare_fields-loop l = laws.Walking l.wa l.pa l.wb l.pb l.x l.y l.initial.here l.counter l.here

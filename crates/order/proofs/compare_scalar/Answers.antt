@@ -8,11 +8,11 @@ returns-then-rank-eq-RANK_INT c = search laws.an_int
 pub returns-then-rank-eq-RANK_FACT : goal.returns-then-rank-eq-RANK_FACT
 returns-then-rank-eq-RANK_FACT c = search laws.a_ref
 
-pub returns-then-pa-p : goal.returns-then-pa-p
-returns-then-pa-p c = search laws.long_a
+pub returns-then-pa-s : goal.returns-then-pa-s
+returns-then-pa-s c = search laws.long_a
 
-pub returns-then-pb-q : goal.returns-then-pb-q
-returns-then-pb-q c = search laws.long_b
+pub returns-then-pb-s : goal.returns-then-pb-s
+returns-then-pb-s c = search laws.long_b
 
 pub returns : goal.returns
 returns c = search laws.a_run

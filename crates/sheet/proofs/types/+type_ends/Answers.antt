@@ -1,42 +1,24 @@
-use native.Mathlib.Omega.{arith}
 use Rattle.sheet.proofs.TypeWalk.{none_left, zero_kind, scalar, short, unknown, reference, seven_twice, optional_zero, optional_scalar, optional_short, optional_reference, optional_end, too_deep, record_end, union_end_lem}
-use Rattle.sheet.proofs.TypeWalk.{run_start_lem, fields_done, fields_fail, fields_go, alts_done, alts_fail, alts_go, alts_out}
-use Prim.Native.Nat.{ℕ, ◌≤◌, ◌<◌}
-use mathlib.Core.Path.{◌≡◌}
+use Rattle.sheet.proofs.TypeWalk.{fields_done, fields_fail, fields_go, alts_done, alts_fail, alts_go, alts_out}
 use Rattle.sheet.proofs.types.+type_ends.Goals as goal
-
-past-four : (k : ℕ) → 4 ≤ k → (k ≡ 4 → ⊥) → 4 < k
-past-four k a b = omega arith
-
-pub alternatives_end-loop-left-init : goal.alternatives_end-loop-left-init
-alternatives_end-loop-left-init t c = search run_start_lem
 
 pub alternatives_end-returns-then-place-ty : goal.alternatives_end-returns-then-place-ty
 alternatives_end-returns-then-place-ty t c = search alts_out
 
-pub alternatives_end-type_end-place-requires : goal.alternatives_end-type_end-place-requires
-alternatives_end-type_end-place-requires t c = (omega (arith, c.loop-left.invariant.low), tt)
+pub alternatives_end-returns-in_err-place : goal.alternatives_end-returns-in_err-place
+alternatives_end-returns-in_err-place t c = rw c.from_residual.ensures (alts_fail _ c.loop.invariant c.loop-test.true c.if-place-ty.false c.in_err-place.ensures)
 
-pub alternatives_end-returns-then-place-eq0 : goal.alternatives_end-returns-then-place-eq0
-alternatives_end-returns-then-place-eq0 t c = search alts_fail
-
-pub alternatives_end-loop-left-preserved : goal.alternatives_end-loop-left-preserved
-alternatives_end-loop-left-preserved t c = search alts_go
+pub alternatives_end-loop-preserved : goal.alternatives_end-loop-preserved
+alternatives_end-loop-preserved t c = alts_go _ c.loop.invariant c.loop-test.true c.if-place-ty.false c.in_ok-place.ensures
 
 pub alternatives_end-returns : goal.alternatives_end-returns
 alternatives_end-returns t c = search alts_done
 
-pub fields_end-loop-left-init : goal.fields_end-loop-left-init
-fields_end-loop-left-init t c = search run_start_lem
+pub fields_end-returns-in_err-place : goal.fields_end-returns-in_err-place
+fields_end-returns-in_err-place t c = rw c.from_residual.ensures (fields_fail _ c.loop.invariant c.loop-test.true c.in_err-place.ensures)
 
-pub fields_end-type_end-place-requires : goal.fields_end-type_end-place-requires
-fields_end-type_end-place-requires t c = (omega (arith, c.loop-left.invariant.low), tt)
-
-pub fields_end-returns-then-place-eq0 : goal.fields_end-returns-then-place-eq0
-fields_end-returns-then-place-eq0 t c = search fields_fail
-
-pub fields_end-loop-left-preserved : goal.fields_end-loop-left-preserved
-fields_end-loop-left-preserved t c = search fields_go
+pub fields_end-loop-preserved : goal.fields_end-loop-preserved
+fields_end-loop-preserved t c = fields_go _ c.loop.invariant c.loop-test.true c.in_ok-place.ensures
 
 pub fields_end-returns : goal.fields_end-returns
 fields_end-returns t c = search fields_done
@@ -56,23 +38,14 @@ group_end-returns-then-ty-at-lt3 t c = search optional_short
 pub group_end-returns-then-second-eq-KIND_FACT : goal.group_end-returns-then-second-eq-KIND_FACT
 group_end-returns-then-second-eq-KIND_FACT t c = search optional_reference
 
-pub group_end-group_end-requires : goal.group_end-group_end-requires
-group_end-group_end-requires t c = (omega arith, (omega arith, past-four _ c.if-second-lt-KIND_FACT.false c.if-second-eq-KIND_FACT.false))
-
 pub group_end-returns-then-kind-eq-KIND_OPTIONAL : goal.group_end-returns-then-kind-eq-KIND_OPTIONAL
 group_end-returns-then-kind-eq-KIND_OPTIONAL t c = search optional_end
 
 pub group_end-returns-then-groups-eq0 : goal.group_end-returns-then-groups-eq0
 group_end-returns-then-groups-eq0 t c = search too_deep
 
-pub group_end-fields_end-requires : goal.group_end-fields_end-requires
-group_end-fields_end-requires t c = (omega arith, omega arith)
-
 pub group_end-returns-then-kind-eq-KIND_RECORD : goal.group_end-returns-then-kind-eq-KIND_RECORD
 group_end-returns-then-kind-eq-KIND_RECORD t c = search record_end
-
-pub group_end-alternatives_end-requires : goal.group_end-alternatives_end-requires
-group_end-alternatives_end-requires t c = (omega arith, omega arith)
 
 pub group_end-returns-then-kind-eq-KIND_UNION : goal.group_end-returns-then-kind-eq-KIND_UNION
 group_end-returns-then-kind-eq-KIND_UNION t c = search union_end_lem
@@ -94,6 +67,3 @@ type_end-returns-then-ty-at-lt2 t c = search short
 
 pub type_end-returns-then-kind-eq-KIND_FACT : goal.type_end-returns-then-kind-eq-KIND_FACT
 type_end-returns-then-kind-eq-KIND_FACT t c = search reference
-
-pub type_end-group_end-requires : goal.type_end-group_end-requires
-type_end-group_end-requires t c = (omega arith, (omega arith, omega arith))

@@ -8,11 +8,11 @@ returns-then-words-gt-MAX_VALUE_WORDS c = search too_long
 pub returns-then-pool-gt-MAX_POOL_BYTES : goal.returns-then-pool-gt-MAX_POOL_BYTES
 returns-then-pool-gt-MAX_POOL_BYTES c = search too_large
 
-pub returns-then-end-eq0 : goal.returns-then-end-eq0
-returns-then-end-eq0 c = search no_value
-
 pub returns-then-end-words : goal.returns-then-end-words
-returns-then-end-words c = is_value _ _ c.if-words-gt-MAX_VALUE_WORDS.false c.if-pool-gt-MAX_POOL_BYTES.false _ _ c.value_end-end.ensures c.if-end-eq0.false c.if-end-words.true
+returns-then-end-words c = is_value _ _ c.if-words-gt-MAX_VALUE_WORDS.false c.if-pool-gt-MAX_POOL_BYTES.false _ c.in-Some.ensures c.if-end-words.true
 
 pub returns-else-end-words : goal.returns-else-end-words
-returns-else-end-words c = search more_words
+returns-else-end-words c = more_words _ _ c.if-words-gt-MAX_VALUE_WORDS.false c.if-pool-gt-MAX_POOL_BYTES.false _ c.in-Some.ensures c.if-end-words.false
+
+pub returns-in-None : goal.returns-in-None
+returns-in-None c = no_value _ _ c.if-words-gt-MAX_VALUE_WORDS.false c.if-pool-gt-MAX_POOL_BYTES.false c.in-None.ensures
