@@ -6,10 +6,10 @@ ghost use Rattle.keylines.specs.Answers.{Counts, PieceAsked};
 
 use keylines::{First, KEY_ROOM, Left, MAX_INPUT, PIECE_ROOM};
 use std::io;
-use std::io::{Read, Write};
+use std::io::{Read, Stdin, Write};
 
 // Reads to the end, or until the buffer is full: how much was read, and whether a read failed.
-fn read_input(mut from: impl Read + Drop, buf: &mut [u8]) -> (usize, io::Result<()>)
+fn read_input(mut from: Stdin, buf: &mut [u8]) -> (usize, io::Result<()>)
     ensures { Counts result.0 buf.new }
 {
     let mut n = 0;

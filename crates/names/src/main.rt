@@ -136,7 +136,10 @@ fn main(rt: HostRuntime) -> io::Result<()> {
     name_line(rt, b"\x21\x00")?;
     // characters of two, three and four bytes, and an escaped zero
     name_line(rt, b"\x21\xc3\xa9\x00\xff\x41\x00")?;
-    name_line(rt, b"\x21\xc3\xa9\xe2\x82\xac\xf0\x9f\x98\x80\x00\xff\x7a\x00")?;
+    name_line(
+        rt,
+        b"\x21\xc3\xa9\xe2\x82\xac\xf0\x9f\x98\x80\x00\xff\x7a\x00",
+    )?;
     // too little scratch for a name with an escape: the panel shows it all the same
     short_line(rt, b"\x21\xc3\xa9\x00\xff\x41\x00")?;
     // bytes behind the run
