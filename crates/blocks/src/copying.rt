@@ -17,6 +17,14 @@ pub fn copy_to(dst: &mut [u8], o: usize, src: &[u8], i: usize, e: usize)
     }
 }
 
+// The same by the library, for parts that are long or of a literal length.
+fn copy_long(dst: &mut [u8], o: usize, src: &[u8], i: usize, e: usize)
+    requires { (i ≤ e) × (e ≤ length src.now) × (o + (e - i) ≤ length dst.old) }
+    ensures { dst.new ≡ put dst.old o (slice i e src.now) }
+{
+    dst[o..o + (e - i)].copy_from_slice(&src[i..e]);
+}
+
 // As many bytes as are copied at once. The C library's memmove takes a slower way for 4,096 and more on some processors.
 const BLOCK: usize = 2048;
 
@@ -25,7 +33,7 @@ fn copy_block(dst: &mut [u8], src: &[u8], i: usize, n: usize)
     requires { (n ≤ 2048) × (i + n ≤ length src.now) × (i + n ≤ length dst.old) }
     ensures { dst.new ≡ put dst.old i (slice i (i + n) src.now) }
 {
-    dst[i..i + n].copy_from_slice(&src[i..i + n]);
+    copy_long(dst, i, src, i, i + n);
 }
 
 // Copies the first n bytes of src to the front of dst, block by block.
@@ -60,7 +68,7 @@ pub fn copy_clear(dst: &mut [u8], o: usize, src: &[u8]) -> usize
 {
     let mut i: usize = 0;
     while 64 <= src.len() - i && clear(&src[i..i + 64]) {
-        copy_to(dst, o + i, src, i, i + 64);
+        copy_long(dst, o + i, src, i, i + 64);
         i += 64;
     }
     i
