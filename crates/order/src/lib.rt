@@ -37,6 +37,7 @@ pub struct Walk {
 }
 
 // The rank of a kind's number.
+#[tactic(auto, unfolding(crate::specs::Compare::rank_of))]
 fn rank_of(kind: u64) -> u64
     ensures { result ≡ rank_of kind }
 {
