@@ -38,10 +38,6 @@ module _ (d : List ℕ) (at : ℕ) where
 pub set_put : (d : List ℕ) (i b : ℕ) → i < length d → set d i b ≡ put d i (b ∷ [])
 set_put d i b h = rw add-one (set_split d i b h)
 
--- what a part of the buffer becomes, as a put
-pub put_part : (d s : List ℕ) (at n : ℕ) → length s ≡ n → take at d ++ (s ++ drop n (drop at d)) ≡ put d at s
-put_part d s at n e = rw (← e) (ap (λ (t : List ℕ). take at d ++ (s ++ t)) (drop-drop (length s) at d))
-
 -- the next byte of a list, stored behind those that were put
 pub put_next : (d : List ℕ) (at : ℕ) (s : List ℕ) (k : ℕ) {d₁ : List ℕ} → k < length s → at + length s ≤ length d → d₁ ≡ put d at (take k s) → set d₁ (at + k) (get_or s k 0) ≡ put d at (take (k + 1) s)
 put_next d at s k {d₁} h l e =

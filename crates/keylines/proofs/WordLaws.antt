@@ -156,7 +156,6 @@ module _ {text ty : List ℕ} {start n r : ℕ} (v : WordsTaken text ty start n)
       ∙ ap (λ (o : Option ℕ). if (is_some o) (bad_word (n + 1 + 1) behind.0) (some (n + 1))) (sym e)
 
   module _ {x : ℕ} (its : some x ≡ word_of part) where
-
     -- the words with this one, and what is left
     more : (ps : List (List ℕ)) → parts_of (drop start text) ≡ part ∷ ps → type_in text ≡ ahead (v.words ++ (x ∷ [])) (words_of ps)
     unfolding type_in

@@ -33,14 +33,7 @@ fn put_number(out: &mut [u8], at: usize, n: u64, behind: u8) -> usize
 pub const MAX_ROW: usize = 59;
 
 // A row's numbers.
-fn put_numbers(
-    out: &mut [u8],
-    at: usize,
-    place: u64,
-    no: u32,
-    detail: u64,
-    begun: usize,
-) -> usize
+fn put_numbers(out: &mut [u8], at: usize, place: u64, no: u32, detail: u64, begun: usize) -> usize
     requires { (place < 100000) × (at + MAX_ROW ≤ length out.old) }
     ensures { RowPut out.old out.new at result (row place no detail begun) }
 {
