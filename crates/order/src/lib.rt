@@ -29,11 +29,11 @@ const TOP_BIT: u64 = 0x8000_0000_0000_0000;
 // Where a walk stands in the words and the pool of both sheets, and how what it passed compares. Only an equal walk goes on.
 #[derive(Clone, Copy)]
 pub struct Walk {
-    pub order: Ordering,
     pub i: usize,
     pub p: usize,
     pub j: usize,
     pub q: usize,
+    pub order: Ordering,
 }
 
 // The rank of a kind's number.
@@ -96,16 +96,16 @@ fn compare_value(wa: &[u64], pa: &[u8], wb: &[u64], pb: &[u8], s: Walk) -> Walk
 {
     let i = s.i;
     let j = s.j;
-    if wa.len() <= i {
-        return s;
-    }
-    if wb.len() <= j {
+    if wa.len() <= i || wb.len() <= j {
         return s;
     }
     let rank = rank_of(wa[i]);
-    let kinds = rank.cmp(&rank_of(wb[j]));
-    if kinds.is_ne() {
-        return Walk { order: kinds, ..s };
+    let other = rank_of(wb[j]);
+    if rank != other {
+        return Walk {
+            order: rank.cmp(&other),
+            ..s
+        };
     }
     if rank == RANK_NULL {
         return Walk {
@@ -115,10 +115,7 @@ fn compare_value(wa: &[u64], pa: &[u8], wb: &[u64], pb: &[u8], s: Walk) -> Walk
             ..s
         };
     }
-    if wa.len() - i < 2 {
-        return s;
-    }
-    if wb.len() - j < 2 {
+    if wa.len() - i < 2 || wb.len() - j < 2 {
         return s;
     }
     let x = wa[i + 1];
@@ -133,9 +130,11 @@ fn compare_value(wa: &[u64], pa: &[u8], wb: &[u64], pb: &[u8], s: Walk) -> Walk
         return compare_fields(wa, pa, wb, pb, inside, x, y);
     }
     if rank == RANK_UNION {
-        let tags = x.cmp(&y);
-        if tags.is_ne() {
-            return Walk { order: tags, ..s };
+        if x != y {
+            return Walk {
+                order: x.cmp(&y),
+                ..s
+            };
         }
         return compare_value(wa, pa, wb, pb, inside);
     }
