@@ -4,6 +4,7 @@ use Rattle.std.specs.Prelude.{Result, Err}
 use borrow.Author.Rules.{rules}
 use Rattle.std.proofs.lemmas.Result.{err_from_is_err_and}
 use Rattle.fit.proofs.Steps as laws
+use Rattle.fit.proofs.Leaves.{closed_bad}
 use Rattle.fit.proofs.Optional as optional
 use Rattle.fit.proofs.Rows.{start_left, next_stands, all_passed, field_refused, field_passed}
 use Rattle.fit.proofs.+fits.Goals as goal
@@ -137,18 +138,25 @@ fit_value-returns-then-depth-ge-MAX_RECORD_DEPTH-2 t c =
     let m = optional.matched c.requires c.plain_place-at.ensures (c.if-words-w.false ∙ c.from.ensures) in
     m.back (laws.deep_union m.same (omega (arith, m.plain)) c.alternative-choice.ensures.picks c.in_ok-place.ensures.ok_part c.if-depth-ge-MAX_RECORD_DEPTH-2.true)
 
-pub fit_value-fit_value-payload-requires : goal.fit_value-fit_value-payload-requires
-fit_value-fit_value-payload-requires t c =
+pub fit_value-fit_value-requires : goal.fit_value-fit_value-requires
+fit_value-fit_value-requires t c =
     let m = optional.matched c.requires c.plain_place-at.ensures (c.if-words-w.false ∙ c.from.ensures) in
     let s = m.stands in
     let found = c.alternative-choice.ensures.picks in
     (omega (arith, c.decreases, laws.word_second s m.same), laws.payload_stands m.same (omega (arith, m.plain)) found s c.in_ok-place.ensures.ok_part)
 
 pub fit_value-in_union-requires : goal.fit_value-in_union-requires
-fit_value-in_union-requires t c = laws.value_short c.requires c.fit_value-payload.ensures
+fit_value-in_union-requires t c = laws.value_short c.requires c.in-Ok.ensures
 
-pub fit_value-returns : goal.fit_value-returns
-fit_value-returns t c =
+pub fit_value-returns-in-Ok : goal.fit_value-returns-in-Ok
+fit_value-returns-in-Ok t c =
     let m = optional.matched c.requires c.plain_place-at.ensures (c.if-words-w.false ∙ c.from.ensures) in
     let found = c.alternative-choice.ensures.picks in
-    m.back (laws.in_union_lem m.same (omega (arith, m.plain)) found c.in_ok-place.ensures.ok_part c.if-depth-ge-MAX_RECORD_DEPTH-2.false c.fit_value-payload.ensures c.in_union.ensures)
+    m.back (laws.in_union_lem m.same (omega (arith, m.plain)) found c.in_ok-place.ensures.ok_part c.if-depth-ge-MAX_RECORD_DEPTH-2.false c.in-Ok.ensures c.in_union.ensures)
+
+pub fit_value-returns-in-Err : goal.fit_value-returns-in-Err
+fit_value-returns-in-Err t c =
+    let m = optional.matched c.requires c.plain_place-at.ensures (c.if-words-w.false ∙ c.from.ensures) in
+    let found = c.alternative-choice.ensures.picks in
+    let closed = closed_bad _ _ _ _ c.in-Err.why _ c.union_refusal.ensures in
+    m.back (laws.in_union_lem m.same (omega (arith, m.plain)) found c.in_ok-place.ensures.ok_part c.if-depth-ge-MAX_RECORD_DEPTH-2.false c.in-Err.ensures closed)
