@@ -169,7 +169,9 @@ pub fn fit_value(
         });
     }
     let choice = sheet::alternative(ty, at, x);
-    let place = choice.place.ok_or(Refusal::UnknownDiscriminant(x))?;
+    let Some(place) = choice.place else {
+        return Err(Refusal::UnknownDiscriminant(x));
+    };
     if format::MAX_RECORD_DEPTH <= depth {
         return Err(Refusal::BadUnion(x));
     }
@@ -203,9 +205,10 @@ pub fn fit_fields(
     };
     for passed in 0..n {
         let end_asked = sheet::asks(n - passed, asked);
-        let field = fit_value(
-            ty, words, pool, row.at, row.word, row.pool, depth, end_asked,
-        )?;
+        let found = fit_value(ty, words, pool, row.at, row.word, row.pool, depth, end_asked);
+        let Ok(field) = found else {
+            return found;
+        };
         row = Fitted {
             len: row.len + field.len,
             ..field
