@@ -228,6 +228,10 @@ module _ {ty words pool : List ℕ} {t w p depth : ℕ} {asked : Bool} (same : g
 
 -- ---- unions
 
+is_none : (o : Option ℕ) → ((x : ℕ) → o ≡ Some x → ⊥) → o ≡ None
+is_none None h = refl
+is_none (Some x) h = absurd (h x refl)
+
 -- a union and its value: what fits goes by what the tag chooses
 record UnionPair (ty words pool : List ℕ) (t w p depth : ℕ) (T : Ty) (v : Val) (e f g : ℕ) : Type 0 where
   us : Alts
@@ -273,13 +277,13 @@ module _ {ty words pool : List ℕ} {t w p : ℕ} (same : get_or words w 0 ≡ g
         }
 
     module _ {depth : ℕ} {asked : Bool} where
-      pub no_alternative : place ≡ None → FitValue ty words pool t w p depth asked (Err (made.UnknownDiscriminant (get_or words (w + 1) 0)))
+      pub no_alternative : ((at : ℕ) → place ≡ Some at → ⊥) → FitValue ty words pool t w p depth asked (Err (made.UnknownDiscriminant (get_or words (w + 1) 0)))
       no_alternative z =
           record {
             brief = tt;
             says = λ T v e f g s.
                 let u = union_pair depth s in
-                record { answer = sym (rw (missing found u.us u.type u.deep z) at u.is); ends = tt };
+                record { answer = sym (rw (missing found u.us u.type u.deep (is_none place z)) at u.is); ends = tt };
           }
 
       module _ {at : ℕ} (z : place ≡ Some at) where

@@ -1,12 +1,12 @@
 // The encoder's measuring walk: over a type and a value, without a buffer. It finds every refusal, or where type and value end and how long the encoding is.
 #![tactic(auto)]
 
-ghost use Rattle.std.specs.Prelude.{◌≡◌, ◌+◌, ◌≤◌, ◌<◌, ◌^◌, length, get_or, Err};
+ghost use Rattle.std.specs.Prelude.{◌≡◌, ◌+◌, ◌≤◌, ◌<◌, ◌^◌, length, get_or, Ok, Err};
 ghost use Rattle.format.specs.ValueSheet.{max_value_words};
 ghost use Rattle.format.specs.Encode.{fits_ref, in_union, null_bytes};
 ghost use Rattle.format.specs.Refusals.{answered};
 ghost use Rattle.format.proofs.PlainLaws.{plain_pool};
-ghost use Rattle.fit.specs.Fit.{plain_place, answer_of, leaf_in, ref_in, len_of, Standing, StandingRow, Closed, FitValue, FitFields};
+ghost use Rattle.fit.specs.Fit.{plain_place, answer_of, leaf_in, ref_in, Standing, StandingRow, Closed, FitValue, FitFields};
 
 use format::Refusal;
 
@@ -65,24 +65,15 @@ fn union_refusal(why: Refusal, tag: u64) -> Refusal
     }
 }
 
-// What a union makes of its payload's answer: the end of its alternatives, where that is asked for, and its tag; or its refusal.
-fn in_union(
-    ty: &[u32],
-    payload: Result<Fitted, Refusal>,
-    tag: u64,
-    left: u32,
-    asked: bool,
-) -> Result<Fitted, Refusal>
-    requires { len_of payload < 2 ^ 32 }
-    ensures { Closed ty.now tag left asked payload result }
+// What a union makes of its payload that fits: the end of its alternatives, where that is asked for, and its tag.
+fn in_union(ty: &[u32], payload: Fitted, tag: u64, left: u32, asked: bool) -> Fitted
+    requires { payload.len < 2 ^ 32 }
+    ensures { Closed ty.now tag left asked (Ok payload) (Ok result) }
 {
-    match payload {
-        Ok(inner) => Ok(Fitted {
-            at: sheet::union_end(ty, inner.at, left, asked),
-            len: inner.len + (2 + scalar::ints::uint_len(tag)),
-            ..inner
-        }),
-        Err(why) => Err(union_refusal(why, tag)),
+    Fitted {
+        at: sheet::union_end(ty, payload.at, left, asked),
+        len: payload.len + (2 + scalar::ints::uint_len(tag)),
+        ..payload
     }
 }
 
@@ -178,12 +169,16 @@ pub fn fit_value(
         });
     }
     let choice = sheet::alternative(ty, at, x);
-    let place = choice.place.ok_or(Refusal::UnknownDiscriminant(x))?;
+    let Some(place) = choice.place else {
+        return Err(Refusal::UnknownDiscriminant(x));
+    };
     if format::MAX_RECORD_DEPTH <= depth {
         return Err(Refusal::BadUnion(x));
     }
-    let payload = fit_value(ty, words, pool, place, w + 2, p, depth + 1, asked);
-    in_union(ty, payload, x, choice.left, asked)
+    match fit_value(ty, words, pool, place, w + 2, p, depth + 1, asked) {
+        Ok(payload) => Ok(in_union(ty, payload, x, choice.left, asked)),
+        Err(why) => Err(union_refusal(why, x)),
+    }
 }
 
 // The n fields of a record, from these places on.
@@ -210,9 +205,10 @@ pub fn fit_fields(
     };
     for passed in 0..n {
         let end_asked = sheet::asks(n - passed, asked);
-        let field = fit_value(
-            ty, words, pool, row.at, row.word, row.pool, depth, end_asked,
-        )?;
+        let found = fit_value(ty, words, pool, row.at, row.word, row.pool, depth, end_asked);
+        let Ok(field) = found else {
+            return found;
+        };
         row = Fitted {
             len: row.len + field.len,
             ..field

@@ -1,38 +1,33 @@
 use native.Mathlib.Omega.{arith}
-use mathlib.Core.Path.{◌≡◌, sym, ◌∙◌}
-use Rattle.std.specs.Prelude.{Result, Err}
+use mathlib.Core.Path.{sym, ◌∙◌}
 use borrow.Author.Rules.{rules}
 use Rattle.std.proofs.lemmas.Result.{err_from_is_err_and}
 use Rattle.fit.proofs.Steps as laws
+use Rattle.fit.proofs.Leaves.{closed_bad}
 use Rattle.fit.proofs.Optional as optional
 use Rattle.fit.proofs.Rows.{start_left, next_stands, all_passed, field_refused, field_passed}
 use Rattle.fit.proofs.+fits.Goals as goal
 
-same_error : {A E : Type 0} {x y : E} → ◌≡◌ {A = Result A E} (Err x) (Err y) → x ≡ y
-same_error e = cc
-
 pub fit_fields-loop-passed-init : goal.fit_fields-loop-passed-init
 fit_fields-loop-passed-init t c = start_left c.requires _ _ (omega arith)
 
-pub fit_fields-fit_value-requires : goal.fit_fields-fit_value-requires
-fit_fields-fit_value-requires t c =
+pub fit_fields-fit_value-found-requires : goal.fit_fields-fit_value-found-requires
+fit_fields-fit_value-found-requires t c =
     let i = c.loop-passed.invariant in
     (omega (arith, c.decreases, i.brief), next_stands c.requires i (omega arith))
 
-pub fit_fields-returns-in_err-field : goal.fit_fields-returns-in_err-field
-fit_fields-returns-in_err-field t c =
-    let p = err_from_is_err_and c.from_residual.result c.from_residual.ensures.1 in
-    rw (p.1, p.2) (field_refused c.loop-passed.invariant (omega arith) c.in_err-field.ensures)
+pub fit_fields-returns-in_default : goal.fit_fields-returns-in_default
+fit_fields-returns-in_default t c = field_refused c.loop-passed.invariant (omega arith) c.in_default.not-Ok c.fit_value-found.ensures
 
 pub fit_fields-overflow_add-row : goal.fit_fields-overflow_add-row
 fit_fields-overflow_add-row t c =
     let s = c.requires in
-    omega (arith, c.loop-passed.invariant.brief, c.in_ok-field.ensures.brief, s.few, s.small)
+    omega (arith, c.loop-passed.invariant.brief, c.in-Ok.ensures.brief, s.few, s.small)
 
 pub fit_fields-loop-passed-preserved : goal.fit_fields-loop-passed-preserved
 fit_fields-loop-passed-preserved t c =
     let a = c.asks-end_asked.ensures in
-    field_passed c.loop-passed.invariant (omega arith) a.0 a.1 (omega arith) c.in_ok-field.ensures
+    field_passed c.loop-passed.invariant (omega arith) a.0 a.1 (omega arith) c.in-Ok.ensures
 
 pub fit_fields-returns : goal.fit_fields-returns
 fit_fields-returns t c = all_passed c.loop-passed.invariant (omega arith)
@@ -124,31 +119,35 @@ fit_value-returns-then-kind-eq-KIND_RECORD t c =
     let count = c.if-x-from.false ∙ c.from-then-kind-eq-KIND_RECORD.ensures in
     m.back (laws.in_record m.same c.if-kind-eq-KIND_RECORD.true count c.if-depth-ge-MAX_RECORD_DEPTH.false c.in_ok-row.ensures)
 
-pub fit_value-returns-in_err-place : goal.fit_value-returns-in_err-place
-fit_value-returns-in_err-place t c =
+pub fit_value-returns-in_default : goal.fit_value-returns-in_default
+fit_value-returns-in_default t c =
     let m = optional.matched c.requires c.plain_place-at.ensures (c.if-words-w.false ∙ c.from.ensures) in
-    let none = c.in_err-place.ensures.ok_part in
-    let is = same_error (rw none at c.in_err-place.ensures.value) in
-    let p = err_from_is_err_and c.from_residual-in_err-place.result c.from_residual-in_err-place.ensures.1 in
-    rw (p.1, p.2, is) (m.back (laws.no_alternative m.same (omega (arith, m.plain)) c.alternative-choice.ensures.picks none))
+    m.back (laws.no_alternative m.same (omega (arith, m.plain)) c.alternative-choice.ensures.picks c.in_default.not-Some)
 
 pub fit_value-returns-then-depth-ge-MAX_RECORD_DEPTH-2 : goal.fit_value-returns-then-depth-ge-MAX_RECORD_DEPTH-2
 fit_value-returns-then-depth-ge-MAX_RECORD_DEPTH-2 t c =
     let m = optional.matched c.requires c.plain_place-at.ensures (c.if-words-w.false ∙ c.from.ensures) in
-    m.back (laws.deep_union m.same (omega (arith, m.plain)) c.alternative-choice.ensures.picks c.in_ok-place.ensures.ok_part c.if-depth-ge-MAX_RECORD_DEPTH-2.true)
+    m.back (laws.deep_union m.same (omega (arith, m.plain)) c.alternative-choice.ensures.picks c.in-Some.is c.if-depth-ge-MAX_RECORD_DEPTH-2.true)
 
-pub fit_value-fit_value-payload-requires : goal.fit_value-fit_value-payload-requires
-fit_value-fit_value-payload-requires t c =
+pub fit_value-fit_value-requires : goal.fit_value-fit_value-requires
+fit_value-fit_value-requires t c =
     let m = optional.matched c.requires c.plain_place-at.ensures (c.if-words-w.false ∙ c.from.ensures) in
     let s = m.stands in
     let found = c.alternative-choice.ensures.picks in
-    (omega (arith, c.decreases, laws.word_second s m.same), laws.payload_stands m.same (omega (arith, m.plain)) found s c.in_ok-place.ensures.ok_part)
+    (omega (arith, c.decreases, laws.word_second s m.same), laws.payload_stands m.same (omega (arith, m.plain)) found s c.in-Some.is)
 
 pub fit_value-in_union-requires : goal.fit_value-in_union-requires
-fit_value-in_union-requires t c = laws.value_short c.requires c.fit_value-payload.ensures
+fit_value-in_union-requires t c = laws.value_short c.requires c.in-Ok.ensures
 
-pub fit_value-returns : goal.fit_value-returns
-fit_value-returns t c =
+pub fit_value-returns-in-Ok : goal.fit_value-returns-in-Ok
+fit_value-returns-in-Ok t c =
     let m = optional.matched c.requires c.plain_place-at.ensures (c.if-words-w.false ∙ c.from.ensures) in
     let found = c.alternative-choice.ensures.picks in
-    m.back (laws.in_union_lem m.same (omega (arith, m.plain)) found c.in_ok-place.ensures.ok_part c.if-depth-ge-MAX_RECORD_DEPTH-2.false c.fit_value-payload.ensures c.in_union.ensures)
+    m.back (laws.in_union_lem m.same (omega (arith, m.plain)) found c.in-Some.is c.if-depth-ge-MAX_RECORD_DEPTH-2.false c.in-Ok.ensures c.in_union.ensures)
+
+pub fit_value-returns-in-Err : goal.fit_value-returns-in-Err
+fit_value-returns-in-Err t c =
+    let m = optional.matched c.requires c.plain_place-at.ensures (c.if-words-w.false ∙ c.from.ensures) in
+    let found = c.alternative-choice.ensures.picks in
+    let closed = closed_bad _ _ _ _ c.in-Err.why _ c.union_refusal.ensures in
+    m.back (laws.in_union_lem m.same (omega (arith, m.plain)) found c.in-Some.is c.if-depth-ge-MAX_RECORD_DEPTH-2.false c.in-Err.ensures closed)
