@@ -27,6 +27,7 @@ const RANK_BYTES: u64 = 0x53;
 const TOP_BIT: u64 = 0x8000_0000_0000_0000;
 
 // Where a walk stands in the words and the pool of both sheets, and how what it passed compares. Only an equal walk goes on.
+// The order stands last: in front, the copies of its padding cost a comparison up to a tenth.
 #[derive(Clone, Copy)]
 pub struct Walk {
     pub i: usize,
