@@ -5,8 +5,8 @@ use Prim.Native.Nat.{ℕ, suc, ◌+◌, ◌-◌, ◌≤◌, ◌<◌}
 use native.Mathlib.Nat.{add-zero, add_assoc}
 use native.Mathlib.Numerals.{add-one}
 use native.Mathlib.Omega.{arith}
-use lib.ListN.{length, set, take, drop, take-append-drop, length-append, length-take, length-drop, length-set}
-use lib.Seq.{slice, length-slice, length-take-le, take_at, drop_at, drop-drop, set_split, take-set-le}
+use lib.ListN.{length, get_or, set, take, drop, take-append-drop, length-append, length-take, length-drop, length-set}
+use lib.Seq.{slice, length-slice, length-take-le, take_at, drop_at, drop-drop, set_split, take-set-le, take-suc}
 use Rattle.format.specs.Fields.{put}
 use Rattle.blocks.proofs.Spans.{slice_join}
 
@@ -38,9 +38,16 @@ module _ (d : List ℕ) (at : ℕ) where
 pub set_put : (d : List ℕ) (i b : ℕ) → i < length d → set d i b ≡ put d i (b ∷ [])
 set_put d i b h = rw add-one (set_split d i b h)
 
--- what was put in front stands in front
-pub put_begins : (d s : List ℕ) {m : List ℕ} {n : ℕ} → m ≡ put d 0 s → length s ≡ n → slice 0 n m ≡ s
-put_begins d s {n = n} e h = ap (slice 0 n) e ∙ take_at s (drop (0 + length s) d) n h
+-- the next byte of a list, stored behind those that were put
+pub put_next : (d : List ℕ) (at : ℕ) (s : List ℕ) (k : ℕ) {d₁ : List ℕ} → k < length s → at + length s ≤ length d → d₁ ≡ put d at (take k s) → set d₁ (at + k) (get_or s k 0) ≡ put d at (take (k + 1) s)
+put_next d at s k {d₁} h l e =
+    let n : length (take k s) ≡ k = length-take-le k s (omega arith) in
+    let b = get_or s k 0 in
+    let m : at + k < length (put d at (take k s)) = rw (length_put d at (take k s) (omega arith)) (omega arith) in
+    let g : take (k + 1) s ≡ take k s ++ (b ∷ []) = rw add-one (take-suc s k 0 h) in
+    let q : put (put d at (take k s)) (at + k) (b ∷ []) ≡ put d at (take k s ++ (b ∷ [])) =
+    ap (λ (m : ℕ). put (put d at (take k s)) (at + m) (b ∷ [])) (sym n) ∙ put_put d at (take k s) (b ∷ []) (omega arith) in
+    rw (e, g) (set_put (put d at (take k s)) (at + k) b m ∙ q)
 
 -- a put behind a put
 pub put_then : (l : List ℕ) (at : ℕ) (xs ys : List ℕ) {m l' : List ℕ} {a : ℕ} → at + length xs + length ys ≤ length l → a ≡ at + length xs → m ≡ put l at xs → l' ≡ put m a ys

@@ -1,13 +1,13 @@
 -- What holds of each place between two, and the parts of a list that they bound.
 use mathlib.Core.Path.{◌≡◌, sym, ap, subst, ◌∙◌}
-use mathlib.Core.List.{List, ◌∷◌, ◌++◌}
+use mathlib.Core.List.{List, ◌++◌}
 use mathlib.Core.Bool.{Bool}
 use Prim.Native.Nat.{ℕ, ◌+◌, ◌-◌, ◌≤◌, ◌<◌}
-use native.Mathlib.Numerals.{add-one}
 use native.Mathlib.Omega.{arith}
 use lib.Bits.{bit_or, or_add_and, and_le_l, and_le_r}
 use lib.ListN.{length, get_or, take, drop, take-append-drop, length-take, length-drop}
-use lib.Seq.{slice, slice-cons, length-slice, get_or-drop, get_or-take, drop-append-le, length-take-le, take-take}
+use lib.Seq.{slice, length-slice, get_or-drop, get_or-take, drop-append-le, length-take-le, take-take}
+use Rattle.std.proofs.lemmas.List.{drop-take}
 use Rattle.format.proofs.Tests.{Test, holds, fails, ltb_test}
 
 module _ (P : ℕ → Type 0) where
@@ -24,9 +24,6 @@ module _ (P : ℕ → Type 0) where
   pub span_one : (i e : ℕ) → ((k : ℕ) → i ≤ k → k < e → P k) → P e → (k : ℕ) → i ≤ k → k < e + 1 → P k
   span_one i e h p = span_join i e (e + 1) h (λ k a b. let q : e ≡ k = omega arith in subst P q p)
 
-  pub span_more : (i j : ℕ) → ((k : ℕ) → i ≤ k → k < i + j → P k) → P (i + j) → (k : ℕ) → i ≤ k → k < i + (j + 1) → P k
-  span_more i j h p k a b = span_one i (i + j) h p k a (omega arith)
-
 -- a bound of a bitwise or bounds both
 pub or_below : (a b m : ℕ) → bit_or a b < m → (a < m) × (b < m)
 or_below a b m h =
@@ -36,9 +33,6 @@ or_below a b m h =
     (omega arith, omega arith)
 
 module _ (s : List ℕ) where
-  pub slice_one : (j e : ℕ) → j < e → e ≤ length s → slice j e s ≡ get_or s j 0 ∷ slice (j + 1) e s
-  slice_one j e h k = rw add-one (slice-cons j e s 0 h k)
-
   pub drop_split : (i z : ℕ) → i ≤ z → z ≤ length s → drop i s ≡ slice i z s ++ drop z s
   drop_split i z h k =
       let l : i ≤ length (take z s) = rw (length-take-le z s k) h in
@@ -57,7 +51,13 @@ slice_join s i j e h k l =
     let n : j ≤ length (take e s) = rw (length-take-le e s l) k in
     drop_split (take e s) i j h n ∙ ap (λ (t : List ℕ). drop i t ++ slice j e s) (take-take j e s k)
 
--- the elements of the part that a range names
+-- the part that a range names is the part between its ends
+pub part_slice : (i e : ℕ) (s : List ℕ) → i ≤ e → take (e - i) (drop i s) ≡ slice i e s
+part_slice i e s h =
+    let n : i + (e - i) ≡ e = omega arith in
+    sym (drop-take i (e - i) s) ∙ ap (λ (m : ℕ). slice i m s) n
+
+-- the elements of that part
 pub part_at : (s : List ℕ) (i e k : ℕ) → k < e - i → get_or (take (e - i) (drop i s)) k 0 ≡ get_or s (i + k) 0
 part_at s i e k h = get_or-take (e - i) (drop i s) k 0 h ∙ get_or-drop i s k 0
 

@@ -29,6 +29,7 @@ pub fn differ_at(a: &[u8], b: &[u8]) -> usize
 }
 
 // How a compares to b.
+#[tactic(auto, using(crate::proofs::Orders::order_cmp))]
 pub fn compare(a: &[u8], b: &[u8]) -> Ordering
     ensures { order_of result ≡ cmp_bytes a.now b.now }
 {

@@ -1,7 +1,6 @@
 -- Steps and an answer of which only the contracts are known (specs/Scrolling) are those of the definitions, which `names` is about.
 use Rattle.std.specs.Prelude.{false, Result, Ok, Err, IsOk}
 use mathlib.Core.Path.{◌≡◌, refl, sym, ◌∙◌}
-use mathlib.Core.Bool.{Bool}
 use mathlib.Core.List.{List, [], ◌∷◌, map}
 use Prim.Native.Nat.{ℕ}
 use lib.ListN.{length}

@@ -10,7 +10,6 @@ use lib.ListN.{length}
 use Rattle.std.specs.Prelude.{Result, Ok, Err}
 use Rattle.format.specs.Answer.{ok, refused}
 use Rattle.format.specs.Refusals.{number_of, detail_of}
-use Rattle.format.specs.declared.refusal.Refusal.{Refusal}
 use Rattle.format.specs.declared.refusal.Refusal.TheVariants as made
 use Rattle.format.specs.Tree.{Ty, Val, Vals}
 use Rattle.format.specs.Sheet.{val_words, val_pool}

@@ -59,7 +59,7 @@ fn measure(ty: &[u32], bytes: &[u8], bare: bool) -> Result<Decoded, Refused>
     })
 }
 
-// Puts the value that the bytes hold whole on the sheet, where it has room.
+// Puts the value that the bytes hold whole on the sheet, where it has room. It goes by `bare`, as measuring does: a closure for each would be two that must agree.
 fn put_sheet(bytes: &[u8], bare: bool, words: &mut [u64], pool: &mut [u8])
     ensures { TopFilled bare bytes.now words.old pool.old words.new pool.new }
 {

@@ -9,9 +9,8 @@ use native.Mathlib.Omega.{arith}
 use lib.Dec.{eqb, ltb}
 use lib.ListN.{length, get_or, set, take, drop, length-append}
 use lib.Seq.{take-append_seam}
-use Rattle.std.specs.Prelude.{Option, Some, None, Result, Ok, Err}
-use Rattle.core.specs.Option.{ok_or}
-use Rattle.format.specs.Answer.{if, Answer, ok, refused, and_then, no_room, BadType, BadValue, NoField}
+use Rattle.std.specs.Prelude.{Option, Some, None, Result, Ok, Err, ok_or}
+use Rattle.format.specs.Answer.{if, Answer, ok, refused, and_then, no_room}
 use Rattle.format.specs.Tree.{Ty, Val, Vals}
 use Rattle.format.specs.Sheet.{field_count, val_count, ty_words}
 use Rattle.format.specs.TypeSheet.{type_of, is_some, NotOptional}

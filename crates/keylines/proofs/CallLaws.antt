@@ -1,5 +1,6 @@
 -- What a program writes that calls as keylist does, by the calls' contracts alone: the pieces of the rows, one after another until nothing is left, are
 -- together what is due, and each call leaves less than it found.
+use Rattle.std.specs.Prelude.{Ok, Err}
 use mathlib.Core.Path.{◌≡◌, sym, ap, ◌∙◌}
 use mathlib.Core.List.{List, [], ◌++◌}
 use Prim.Native.Nat.{ℕ, ◌+◌, ◌≤◌, ◌<◌}
@@ -7,8 +8,7 @@ use native.Mathlib.Omega.{arith}
 use lib.ListN.{length, take}
 use Rattle.format.specs.Keylist.{keylist}
 use Rattle.keylines.specs.Answers.{rows_left, FirstRead, PiecePut, NoTypePut}
-use Rattle.keylines.specs.declared.first.First.{First}
-use Rattle.keylines.specs.declared.first.Reason.{Reason}
+use Rattle.keylines.specs.declared.reason.Reason.{Reason}
 use Rattle.keylines.specs.declared.pieces.Left.{Left}
 use Rattle.keylines.specs.declared.pieces.Piece.{Piece}
 use Rattle.keylines.proofs.RowLaws.{rows_left_lem}
@@ -33,11 +33,11 @@ few (done h) k = omega arith
 few (then h p rest) k = omega (arith, few rest p.asked.place, (p.on h).0)
 
 -- after the type was read
-pub typed : {input buffer : List ℕ} {n : ℕ} {left : Left} {out : List ℕ} → FirstRead input buffer (First.Type n left) → Calls (take n buffer) input left out
+pub typed : {input buffer : List ℕ} {n : ℕ} {left : Left} {out : List ℕ} → FirstRead input buffer (Ok (record { words = n; left = left })) → Calls (take n buffer) input left out
     → out ≡ keylist input
 typed first calls = joined calls ∙ sym first.is.rows
 
 -- after there was none
-pub untyped : {input buffer : List ℕ} {why : Reason} → FirstRead input buffer (First.None why) → {before after : List ℕ} {r : ℕ} → NoTypePut before after r
+pub untyped : {input buffer : List ℕ} {why : Reason} → FirstRead input buffer (Err why) → {before after : List ℕ} {r : ℕ} → NoTypePut before after r
     → take r after ≡ keylist input
 untyped first put = put.row ∙ sym first.is

@@ -1,4 +1,6 @@
 -- Laws of the first line: each reason, and that there is one exactly where the row of no type is written.
+use Rattle.std.specs.Prelude.{Result, Ok, Err}
+use Rattle.std.specs.Prelude as std
 use mathlib.Core.Path.{◌≡◌, refl, sym, ap, subst, ◌∙◌}
 use mathlib.Core.Bool.{Bool, true, false, ◌||◌}
 use mathlib.Core.List.{List, [], ◌∷◌, ◌++◌}
@@ -16,13 +18,10 @@ use Rattle.format.specs.Calls.{check_key_call}
 use Rattle.format.specs.Keylist.{max_input, Line, lines_of, in_line, add, below, decimal_from, word_of, words_of, parts_of, widen, key_in, type_in}
 use Rattle.format.specs.Keylist.{digits, decimal, row, answer_row, key_row, key_rows, no_type, under_type, rows, keylist}
 use Rattle.keylines.specs.Reasons.{has, bad_word, admits, in_words, in_text, in_lines, reason}
-use Rattle.keylines.specs.Answers.{TypeRead, FirstIs, FirstRead, Found, WordsAre, WordsRead, TooMany, TypeTaken, TypedIs, TypedRead, Counts}
+use Rattle.keylines.specs.Answers.{TypeRead, FirstIs, FirstRead, Found, FoundAt, WordsAre, WordsRead, TooMany, TypeTaken, TypedIs, TypedRead, Counts}
 use Rattle.keylines.specs.declared.first.First.{First}
-use Rattle.keylines.specs.declared.first.Reason.{Reason}
-use Rattle.keylines.specs.declared.first.Typed.{Typed}
-use Rattle.keylines.specs.declared.pieces.Left.{Left}
-use Rattle.keylines.specs.declared.types.Words.{Words}
-use Rattle.keylines.proofs.TextLaws.{line_here, line_left, not_end, found_has, found_has_not}
+use Rattle.keylines.specs.declared.reason.Reason.{Reason}
+use Rattle.keylines.proofs.TextLaws.{line_here, line_left, found_has, found_has_not}
 
 -- ---- a bad word
 
@@ -185,20 +184,14 @@ agrees input = go (leb (length input) max_input)
 
 -- ---- the text of a type
 
-are_n : {text ty : List ℕ} {w : Words} {n : ℕ} → WordsRead text ty w → w ≡ Words.Are n → (type_in text ≡ some (take n ty)) × Counts n ty
-are_n {text} {ty} v k = subst (WordsAre text ty) k v.are
-
-pub text_counts : {text ty : List ℕ} {w : Words} {n : ℕ} → WordsRead text ty w → w ≡ Words.Are n → Counts n ty
-text_counts v k = (are_n v k).1
-
-module _ {text : List ℕ} {r : ℕ} (f : Found text 0 13 r) where
+module _ {text : List ℕ} {o : std.Option ℕ} (f : FoundAt text 0 13 o) where
   by_return : (t : Bool) → has 13 text ≡ t → if t (some Reason.CarriageReturn) (in_words (bad_word 1 (parts_of text)) (admits (type_in text))) ≡ in_text text
   by_return t e = ap (λ (t : Bool). if t (some Reason.CarriageReturn) (in_words (bad_word 1 (parts_of text)) (admits (type_in text)))) (sym e)
 
-  pub text_return : r < length text → some Reason.CarriageReturn ≡ in_text text
+  pub text_return : std.is_some o ≡ true → some Reason.CarriageReturn ≡ in_text text
   text_return h = by_return true (found_has f h)
 
-  module _ (h : length text ≤ r) where
+  module _ (h : std.is_some o ≡ false) where
     no_return : in_words (bad_word 1 (parts_of text)) (admits (type_in text)) ≡ in_text text
     no_return = by_return false (found_has_not f h)
 
@@ -206,37 +199,37 @@ module _ {text : List ℕ} {r : ℕ} (f : Found text 0 13 r) where
     are : (ws : List ℕ) → type_in text ≡ some ws → in_words none (is_some (type_of ws)) ≡ in_text text
     are ws e = sym (λ j. in_words (none_bad text ws e j) (admits (e j))) ∙ no_return
 
-    module _ {ty : List ℕ} {w : Words} (v : WordsRead text ty w) where
-      pub text_bad : {place : ℕ} → w ≡ Words.Bad place → some (Reason.BadWord place) ≡ in_text text
-      text_bad k = ap (λ (o : Option ℕ). in_words o (admits (type_in text))) (sym (subst (WordsAre text ty) k v.are)) ∙ no_return
+    -- why there are no words; what is admitted has at most 4,096
+    pub text_why : {ty : List ℕ} (why : Reason) → WordsRead text ty (Err why) → max_type_words ≤ length ty → some why ≡ in_text text
+    unfolding type_of
+    text_why Reason.TooLong v size = absurd v.are
+    text_why Reason.NoLine v size = absurd v.are
+    text_why Reason.CarriageReturn v size = absurd v.are
+    text_why (Reason.BadWord place) v size = ap (λ (o : Option ℕ). in_words o (admits (type_in text))) (sym v.are) ∙ no_return
+    text_why Reason.NotAdmitted v size =
+        let m = v.are in
+        let over : leb (length m.words) max_type_words ≡ false = lt-leb (length m.words) max_type_words (omega (arith, m.many)) in
+        ap (λ (t : Bool). in_words none (is_some (keep t (whole (type_at max_groups m.words))))) (sym over) ∙ are m.words m.are
 
-      -- what is admitted has at most 4,096 words
-      pub text_many : w ≡ Words.Many → max_type_words ≤ length ty → some Reason.NotAdmitted ≡ in_text text
-      unfolding type_of
-      text_many k size =
-          let m : TooMany text ty = subst (WordsAre text ty) k v.are in
-          let over : leb (length m.words) max_type_words ≡ false = lt-leb (length m.words) max_type_words (omega (arith, m.many)) in
-          ap (λ (t : Bool). in_words none (is_some (keep t (whole (type_at max_groups m.words))))) (sym over) ∙ are m.words m.are
+    module _ {ty : List ℕ} {n : ℕ} (v : WordsRead text ty (Ok n)) where
+      its : (type_in text ≡ some (take n ty)) × Counts n ty
+      its = v.are
 
-      module _ {n : ℕ} (k : w ≡ Words.Are n) where
-        its : (type_in text ≡ some (take n ty)) × Counts n ty
-        its = are_n v k
+      module _ {q : Bool} (e : q ≡ is_some (type_of (take n ty))) where
+        pub text_not_admitted : q ≡ false → some Reason.NotAdmitted ≡ in_text text
+        text_not_admitted l = ap (in_words none) (sym l ∙ e) ∙ are (take n ty) its.0
 
-        module _ {q : Bool} (e : q ≡ is_some (type_of (take n ty))) where
-          pub text_not_admitted : q ≡ false → some Reason.NotAdmitted ≡ in_text text
-          text_not_admitted l = ap (in_words none) (sym l ∙ e) ∙ are (take n ty) its.0
-
-          pub text_admitted : q ≡ true → (none ≡ in_text text) × TypeTaken text ty n
-          text_admitted l =
-              (ap (in_words none) (sym l ∙ e) ∙ are (take n ty) its.0, record { counts = its.1; words = its.0; admitted = sym e ∙ l })
+        pub text_admitted : q ≡ true → (none ≡ in_text text) × TypeTaken text ty n
+        text_admitted l =
+            (ap (in_words none) (sym l ∙ e) ∙ are (take n ty) its.0, record { counts = its.1; words = its.0; admitted = sym e ∙ l })
 
 -- ---- the first line
 
 -- a reason is all that there is to show
-first_none : {input buffer : List ℕ} {why : Reason} → some why ≡ reason input → FirstRead input buffer (First.None why)
+first_none : {input buffer : List ℕ} {why : Reason} → some why ≡ reason input → FirstRead input buffer (Err why)
 first_none {input} e = record { why = e; is = subst (λ (o : Option Reason). Agrees o (keylist input)) (sym e) (agrees input) }
 
-pub too_long : {input buffer : List ℕ} → 65536 < length input → FirstRead input buffer (First.None Reason.TooLong)
+pub too_long : {input buffer : List ℕ} → 65536 < length input → FirstRead input buffer (Err Reason.TooLong)
 unfolding reason
 too_long {input} h = first_none (ap (λ (t : Bool). if t (in_lines (lines_of input)) (some Reason.TooLong)) (sym (lt-leb (length input) max_input h)))
 
@@ -249,41 +242,37 @@ module _ (input : List ℕ) (short : length input ≤ 65536) where
   unfolding keylist
   in_rows = ap (λ (t : Bool). if t (rows (lines_of input)) no_type) (le-leb (length input) max_input short)
 
-module _ {input : List ℕ} {feed : ℕ} (short : length input ≤ 65536) (f : Found input 0 10 feed) where
-  pub no_line : {buffer : List ℕ} → feed ≡ length input → FirstRead input buffer (First.None Reason.NoLine)
+module _ {input : List ℕ} (short : length input ≤ 65536) where
+  pub no_line : Found input 0 10 (length input) → {buffer : List ℕ} → FirstRead input buffer (Err Reason.NoLine)
   unfolding lines_of
-  no_line e = first_none (sym (go input refl) ∙ in_lines_lem input short)
+  no_line f = first_none (sym (go input refl) ∙ in_lines_lem input short)
     where
       go : (s : List ℕ) → input ≡ s → in_lines (lines_of s) ≡ some Reason.NoLine
       go [] k = refl
-      go (x ∷ s) k = sym (ap (λ (i : List ℕ). in_lines (lines_of i)) k) ∙ ap in_lines (line_left f (omega (arith, ap length k)) e)
+      go (x ∷ s) k = sym (ap (λ (i : List ℕ). in_lines (lines_of i)) k) ∙ ap in_lines (line_left f (omega (arith, ap length k)) refl)
 
-  module _ (h : feed ≡ length input → ⊥) where
+  module _ {feed : ℕ} (f : Found input 0 10 feed) (h : feed < length input) where
     first : lines_of input ≡ record { text = take feed input; ended = true } ∷ lines_of (drop (feed + 1) input)
-    first = line_here f (not_end f h) ∙ ap (λ (k : ℕ). record { text = take k input; ended = true } ∷ lines_of (drop (feed + 1) input)) (sub-zero feed)
+    first = line_here f h ∙ ap (λ (k : ℕ). record { text = take k input; ended = true } ∷ lines_of (drop (feed + 1) input)) (sub-zero feed)
 
     -- the text's reason is the input's
     by_text : in_text (take feed input) ≡ reason input
     by_text = sym (ap in_lines first) ∙ in_lines_lem input short
 
-    module _ {buffer : List ℕ} {t : Typed} (v : TypedRead (take feed input) buffer t) where
-      pub no_first : {why : Reason} → t ≡ Typed.None why → FirstRead input buffer (First.None why)
-      no_first k = first_none (subst (TypedIs (take feed input) buffer) k v.is ∙ by_text)
+    pub no_first : {buffer : List ℕ} {why : Reason} → TypedRead (take feed input) buffer (Err why) → FirstRead input buffer (Err why)
+    no_first v = first_none (v.is ∙ by_text)
 
-      pub a_first : {n : ℕ} → t ≡ Typed.Words n → FirstRead input buffer (First.Type n (record { at = feed + 1; line = 1 }))
-      a_first {n} k =
-          let r : (none ≡ in_text (take feed input)) × TypeTaken (take feed input) buffer n = subst (TypedIs (take feed input) buffer) k v.is in
-          let ls = lines_of (drop (feed + 1) input) in
-          record {
-            why = r.0 ∙ by_text;
-            is = record {
-              counts = r.1.counts;
-              asked = record { admitted = r.1.admitted; short = short; place = omega (arith, not_end f h); low = omega arith };
-              rows = in_rows input short ∙ ap rows first ∙ ap (λ (o : Option (List ℕ)). under_type o ls) r.1.words
-                  ∙ ap (λ (t : Bool). if t (key_rows (take n buffer) 1 ls) no_type) r.1.admitted;
-            };
-          }
-
--- what an answer with a type says
-pub type_read : {input buffer : List ℕ} {r : First} {n : ℕ} {left : Left} → FirstRead input buffer r → r ≡ First.Type n left → TypeRead input buffer n left
-type_read {input} {buffer} v k = subst (λ (q : First). FirstIs q input buffer) k v.is
+    pub a_first : {buffer : List ℕ} {n : ℕ} → TypedRead (take feed input) buffer (Ok n)
+        → FirstRead input buffer (Ok (record { words = n; left = record { at = feed + 1; line = 1 } }))
+    a_first {buffer} {n} v =
+        let r = v.is in
+        let ls = lines_of (drop (feed + 1) input) in
+        record {
+          why = r.0 ∙ by_text;
+          is = record {
+            counts = r.1.counts;
+            asked = record { admitted = r.1.admitted; short = short; place = omega arith; low = omega arith };
+            rows = in_rows input short ∙ ap rows first ∙ ap (λ (o : Option (List ℕ)). under_type o ls) r.1.words
+                ∙ ap (λ (t : Bool). if t (key_rows (take n buffer) 1 ls) no_type) r.1.admitted;
+          };
+        }

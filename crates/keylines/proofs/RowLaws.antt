@@ -1,4 +1,5 @@
 -- Laws of a row, of the rows of key lines, and of a piece of them.
+use Rattle.std.specs.Prelude.{Option, Some, None, Result, Ok, Err}
 use mathlib.Core.Path.{◌≡◌, refl, sym, ap, subst, ◌∙◌}
 use mathlib.Core.List.{List, [], ◌∷◌, ◌++◌, append_assoc}
 use Prim.Native.Nat.{ℕ, ◌+◌, ◌-◌, ◌*◌, ◌^◌, ◌≤◌, ◌<◌}
@@ -8,15 +9,16 @@ use lib.ListN.{length, take, drop, set, length-append, drop_of_length-le}
 use lib.Seq.{sets-eq, take_at, drop_at}
 use Rattle.format.specs.Calls.{Checked, check_key_call}
 use Rattle.format.specs.Keylist.{Line, lines_of, in_line, key_in, decimal, row, answer_row, key_row, key_rows, no_type}
+use Rattle.format.specs.Refusals.{number_of, detail_of}
+use Rattle.format.specs.declared.refusal.Refusal.{Refusal}
+use Rattle.format.specs.declared.refusal.Refusal.TheVariants as made
+use Rattle.read.specs.declared.Refused.{Refused}
 use Rattle.decode.specs.Answers.{checked_of}
-use Rattle.decode.specs.declared.CheckedKey.{CheckedKey}
-use Rattle.keylines.specs.Answers.{Counts, rows_left, PieceAsked, FrontPut, PiecePut, NoTypePut, Found, key_is, key_counts, KeyRead, KeyTold, LineTold, Put, NumberPut}
-use Rattle.keylines.specs.declared.keys.Key.{Key}
+use Rattle.keylines.specs.Answers.{Counts, rows_left, PieceAsked, FrontPut, PiecePut, NoTypePut, Found, key_is, key_counts, KeyRead, row_of, KeyTold, LineTold, Put, RowPut, NumberPut}
 use Rattle.keylines.specs.declared.pieces.Left.{Left}
-use Rattle.keylines.specs.declared.pieces.Line as Told
+use Rattle.keylines.specs.declared.pieces.Line as told
 use Rattle.keylines.specs.declared.pieces.Piece.{Piece}
-use Rattle.keylines.specs.declared.pieces.Told.{Told}
-use Rattle.keylines.proofs.TextLaws.{line_here, line_left, not_end}
+use Rattle.keylines.proofs.TextLaws.{line_here, line_left}
 use Rattle.keylines.proofs.PairLaws.{counts}
 use Rattle.keylines.proofs.DecimalLaws.{put_byte, put_both, put_is, decimal_short}
 
@@ -56,37 +58,30 @@ module _ {l m xs : List ℕ} {r : ℕ} (p : Put l m 0 r xs) (h : length xs ≤ l
 
 -- ---- the row of no type
 
-pub no_type_short : length (row 0 15 0 0) ≤ 59
-no_type_short = row_short 0 15 0 0 (omega arith) (omega arith) (omega arith) (omega arith)
-
-pub no_type_put : {l m : List ℕ} {r : ℕ} → Put l m 0 r (row 0 15 0 0) → 59 ≤ length l → NoTypePut l m r
+pub no_type_put : {l m : List ℕ} {r : ℕ} → RowPut l m 0 r (row 0 15 0 0) → 59 ≤ length l → NoTypePut l m r
 unfolding no_type
 no_type_put {l} p h =
-    let room : length (row 0 15 0 0) ≤ length l = omega (arith, no_type_short) in
-    record { front = front_put p room; row = front_is p room }
+    let room : length (row 0 15 0 0) ≤ length l = omega (arith, p.short) in
+    record { front = front_put p.put room; row = front_is p.put room }
 
 -- ---- a key line's row
 
-module _ {text buf : List ℕ} {p : Key} (v : KeyRead text buf p) where
-  pub key_bad : {ty : List ℕ} → p ≡ Key.Bad → KeyTold ty text (record { no = 20; detail = 0; begun = 0 })
-  key_bad {ty} h = record { told = λ place. ap (key_row ty place) (sym v.is ∙ ap (λ (q : Key). key_is q buf) h) }
+-- of a line that holds no key
+abbrev pub bad_line : Refused
+bad_line = record { why = made.BadLine; begun = 0 }
 
-  module _ {n : ℕ} (h : p ≡ Key.Has n) where
-    pub key_count : Counts n buf
-    key_count = subst (λ (q : Key). key_counts q buf) h v.counts
+pub key_bad : {ty text buf : List ℕ} → KeyRead text buf None → KeyTold ty text (Err bad_line)
+key_bad {ty} v = record { told = λ place. ap (key_row ty place) (sym v.is) }
 
-    by : (ty : List ℕ) {r q : CheckedKey} → checked_of r ≡ check_key_call ty (take n buf) → r ≡ q → (place : ℕ)
-        → key_row ty place (key_in text) ≡ answer_row place (checked_of q).answer (checked_of q).begun
-    by ty e k place =
-        ap (key_row ty place) (sym v.is ∙ ap (λ (q : Key). key_is q buf) h)
-        ∙ ap (λ (c : Checked). answer_row place c.answer c.begun) (sym e ∙ ap checked_of k)
+row_is : (place : ℕ) (r : Result ℕ Refused) → answer_row place (checked_of r).answer (checked_of r).begun ≡ row_of place r
+row_is place (Ok k) = refl
+row_is place (Err e) = refl
 
-    module _ {ty : List ℕ} {r : CheckedKey} (e : checked_of r ≡ check_key_call ty (take n buf)) where
-      pub key_good : {b : ℕ} → r ≡ CheckedKey.Accepted b → KeyTold ty text (record { no = 0; detail = 0; begun = b })
-      key_good k = record { told = by ty e k }
-
-      pub key_refused : {m d b : ℕ} → r ≡ CheckedKey.Refused m d b → KeyTold ty text (record { no = m; detail = d; begun = b })
-      key_refused k = record { told = by ty e k }
+pub key_told : {ty text buf : List ℕ} {n : ℕ} {r : Result ℕ Refused} → KeyRead text buf (Some n) → checked_of r ≡ check_key_call ty (take n buf) → KeyTold ty text r
+key_told {ty} {r = r} v e =
+    record {
+      told = λ place. ap (key_row ty place) (sym v.is) ∙ ap (λ (c : Checked). answer_row place c.answer c.begun) (sym e) ∙ row_is place r;
+    }
 
 -- ---- the rows of key lines
 
@@ -107,7 +102,7 @@ pub rows_left_lem : (ty input : List ℕ) (at place : ℕ) → length input ≤ 
 rows_left_lem ty input at place h = ap (λ (s : List ℕ). key_rows ty place (lines_of s)) (drop_of_length-le input h) ∙ ap (key_rows ty place) lines_none ∙ rows_none ty place
 
 module _ {ty input : List ℕ} {at feed : ℕ} (f : Found input at 10 feed) where
-  pub line_bad : at < length input → feed ≡ length input → LineTold ty input at (record { no = 20; detail = 0; begun = 0; next = feed })
+  pub line_bad : at < length input → feed ≡ length input → LineTold ty input at (record { told = Err bad_line; next = feed })
   line_bad h e =
       record {
         rows = λ place. ap (key_rows ty place) (line_left f h e) ∙ rows_one ty place _ []
@@ -116,10 +111,9 @@ module _ {ty input : List ℕ} {at feed : ℕ} (f : Found input at 10 feed) wher
         within = omega arith;
       }
 
-  pub line_told : {t : Told} → KeyTold ty (take (feed - at) (drop at input)) t → (feed ≡ length input → ⊥)
-      → LineTold ty input at (record { no = t.no; detail = t.detail; begun = t.begun; next = feed + 1 })
-  line_told {t} told e =
-      let h = not_end f e in
+  pub line_told : {t : Result ℕ Refused} → KeyTold ty (take (feed - at) (drop at input)) t → feed < length input
+      → LineTold ty input at (record { told = t; next = feed + 1 })
+  line_told {t} told h =
       record {
         rows = λ place. ap (key_rows ty place) (line_here f h) ∙ rows_one ty place _ _
             ∙ ap (λ (l : List ℕ). l ++ key_rows ty (place + 1) (lines_of (drop (feed + 1) input))) (told.told place);
@@ -158,15 +152,16 @@ piece_start buffer h =
     }
 
 module _ {ty input : List ℕ} {left : Left} {buffer piece : List ℕ} {at number end : ℕ} (v : PieceDone ty input left buffer piece at number end) where
-  pub line_short : (no detail begun : ℕ) → no < 2 ^ 32 → detail < 2 ^ 64 → begun < 2 ^ 64 → length (row number no detail begun) ≤ 59
-  line_short n d b = row_short number n d b (omega (arith, v.asked.short, v.asked.place, v.asked.low))
+  pub line_near : number < 100000
+  line_near = omega (arith, v.asked.short, v.asked.place, v.asked.low)
 
-  pub piece_row : {r : Told.Line} → LineTold ty input at r → length (row number r.no r.detail r.begun) ≤ 59 → 59 ≤ 16384 - end
-      → length piece ≡ 16384 → {after : List ℕ} {i : ℕ} → Put piece after end i (row number r.no r.detail r.begun)
-      → PieceDone ty input left buffer after r.next (number + 1) i
-  piece_row {r} told short h size {after} {i} p =
+  pub piece_row : {r : told.Line} → LineTold ty input at r → 59 ≤ 16384 - end → length piece ≡ 16384 → {after : List ℕ} {i : ℕ}
+      → RowPut piece after end i (row_of number r.told) → PieceDone ty input left buffer after r.next (number + 1) i
+  piece_row {r} told h size {after} {i} q =
+      let p = q.put in
+      let short = q.short in
       record {
-        done = v.done ++ row number r.no r.detail r.begun;
+        done = v.done ++ row_of number r.told;
         rows = v.rows ∙ ap (λ (l : List ℕ). v.done ++ l) (told.rows number) ∙ sym (append_assoc v.done _ _);
         put = put_both v.put p;
         asked = record { admitted = v.asked.admitted; short = v.asked.short; place = told.within; low = omega (arith, v.asked.low, told.on) };

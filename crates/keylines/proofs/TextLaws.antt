@@ -1,4 +1,6 @@
 -- Laws of searching a byte, and of lines and parts by the place of the first line feed or tab.
+use Rattle.std.specs.Prelude.{Option, Some, None, is_some, unwrap_or, not, cond}
+use Rattle.std.specs.List.{position, position_or_len}
 use mathlib.Core.Path.{◌≡◌, refl, sym, ap, ◌∙◌}
 use mathlib.Core.Bool.{Bool, true, false}
 use mathlib.Core.List.{List, [], ◌∷◌}
@@ -13,7 +15,7 @@ use Rattle.format.specs.Keylist.{lines_of, longer, parts_of, widen}
 use Rattle.format.proofs.SheetPlaces.{front}
 use Rattle.format.proofs.Tests.{Test, holds, fails, ltb_test}
 use Rattle.keylines.specs.Reasons.{has}
-use Rattle.keylines.specs.Answers.{before, Found}
+use Rattle.keylines.specs.Answers.{before, Found, FoundAt}
 
 -- ---- before
 
@@ -39,29 +41,71 @@ before_is b (x ∷ xs) = go (eqb x b) (before_is b xs)
     go true ih = refl
     go false ih = ap (λ (l : List ℕ). x ∷ l) ih
 
+before_short : (b : ℕ) (s : List ℕ) → length (before b s) ≤ length s
+unfolding before
+before_short b [] = omega arith
+before_short b (x ∷ xs) = go (eqb x b) (before_short b xs)
+  where
+    go : (t : Bool) → length (before b xs) ≤ length xs → length (if t [] (x ∷ before b xs)) ≤ suc (length xs)
+    go true ih = omega arith
+    go false ih = omega arith
+
 -- ---- find
 
--- nothing is found before i
-pub record Searched (s : List ℕ) (at b i : ℕ) : Type 0 where
-  pub from : at ≤ i
-  pub within : i ≤ length s
-  pub left : i + length (before b (drop i s)) ≡ at + length (before b (drop at s))
+-- the search from the front stops where `before` does
+stops : (b : ℕ) (s : List ℕ) → position_or_len (λ x. eqb x b) s ≡ length (before b s)
+unfolding before
+stops b [] = refl
+stops b (x ∷ xs) = go (eqb x b) (stops b xs)
+  where
+    go : (t : Bool) → position_or_len (λ x. eqb x b) xs ≡ length (before b xs)
+        → cond (not t) (1 + position_or_len (λ x. eqb x b) xs) 0 ≡ length (if t [] (x ∷ before b xs))
+    go true ih = refl
+    go false ih = omega (arith, ih)
 
-module _ {s : List ℕ} {at b i : ℕ} (v : Searched s at b i) where
-  pub found_here : i < length s → get_or s i 0 ≡ b → Found s at b i
-  found_here h e =
-      let none : before b (drop i s) ≡ [] = ap (before b) (front s i h) ∙ before_here b _ _ e in
-      record { place = omega (arith, v.left, ap length none); from = v.from; within = v.within }
+module _ (s : List ℕ) (at b : ℕ) (h : at ≤ length s) where
+  -- where the search of what is behind stops
+  abbrev stop : ℕ
+  stop = position_or_len (λ x. eqb x b) (drop at s)
 
-  pub found_not : i < length s → (get_or s i 0 ≡ b → ⊥) → Searched s at b (i + 1)
-  found_not h e =
-      let one : before b (drop i s) ≡ get_or s i 0 ∷ before b (drop (i + 1) s) = ap (before b) (front s i h) ∙ before_not b _ _ e in
-      record { from = omega (arith, v.from); within = omega arith; left = omega (arith, v.left, ap length one) }
+  pub found_some : {n : ℕ} → Some n ≡ position (λ x. eqb x b) (drop at s) → FoundAt s at b (Some (at + n))
+  found_some {n} e = go (ltb stop (length (drop at s))) (ltb_test _ _) e
+    where
+      go : (t : Bool) → Test (stop < length (drop at s)) (length (drop at s) ≤ stop) t → Some n ≡ cond t (Some stop) None → FoundAt s at b (Some (at + n))
+      go true (holds q) k =
+          let e : n ≡ stop = cc in
+          record {
+            found = record { place = omega (arith, stops b (drop at s)); from = omega arith; within = omega (arith, length-drop at s) };
+            inside = λ r z. let y : r ≡ at + n = cc in omega (arith, length-drop at s);
+          }
+      go false (fails q) k = cc
 
-  pub found_end : length s ≤ i → Found s at b i
-  found_end h =
-      let none : before b (drop i s) ≡ [] = ap (before b) (drop_of_length-le s h) ∙ before_none b in
-      record { place = omega (arith, v.left, ap length none); from = v.from; within = v.within }
+  pub found_none : None ≡ position (λ x. eqb x b) (drop at s) → FoundAt s at b None
+  found_none e = go (ltb stop (length (drop at s))) (ltb_test _ _) e
+    where
+      go : (t : Bool) → Test (stop < length (drop at s)) (length (drop at s) ≤ stop) t → None ≡ cond t (Some stop) None → FoundAt s at b None
+      go true (holds q) k = cc
+      go false (fails q) k =
+          record {
+            found = record { place = omega (arith, stops b (drop at s), before_short b (drop at s), length-drop at s); from = h; within = omega arith };
+            inside = λ r z. cc;
+          }
+
+-- the place found, or the end
+module _ {s : List ℕ} {at b : ℕ} {o : Option ℕ} (f : FoundAt s at b o) where
+  pub before_end : is_some o ≡ true → unwrap_or o (length s) < length s
+  before_end h = go o h f.inside
+    where
+      go : (o : Option ℕ) → is_some o ≡ true → ((n : ℕ) → o ≡ Some n → n < length s) → unwrap_or o (length s) < length s
+      go (Some n) h l = l n refl
+      go None h l = cc
+
+  pub at_end : is_some o ≡ false → unwrap_or o (length s) ≡ length s
+  at_end h = go o h
+    where
+      go : (o : Option ℕ) → is_some o ≡ false → unwrap_or o (length s) ≡ length s
+      go (Some n) h = cc
+      go None h = refl
 
 -- ---- lines
 
@@ -136,14 +180,6 @@ module _ {s : List ℕ} {at b r : ℕ} (f : Found s at b r) where
   short : length (drop at s) ≡ length s - at
   short = length-drop at s
 
-  -- a place found that is not the end
-  pub not_end : (r ≡ length s → ⊥) → r < length s
-  not_end h = go (ltb r (length s)) (ltb_test r (length s))
-    where
-      go : (t : Bool) → Test (r < length s) (length s ≤ r) t → r < length s
-      go true (holds q) = q
-      go false (fails q) = absurd (h (omega (arith, f.within)))
-
 module _ {s : List ℕ} {at r : ℕ} (f : Found s at 10 r) where
   pub line_here : r < length s → lines_of (drop at s) ≡ record { text = take (r - at) (drop at s); ended = true } ∷ lines_of (drop (r + 1) s)
   line_here h =
@@ -184,9 +220,10 @@ has_not b (x ∷ xs) h = go (eqb x b) (has_not b xs) h
     go true ih k = absurd (omega arith)
     go false ih k = ih (omega arith)
 
-module _ {s : List ℕ} {b r : ℕ} (f : Found s 0 b r) where
-  pub found_has : r < length s → has b s ≡ true
-  found_has h = has_in b s (omega (arith, f.place))
+pub found_has : {s : List ℕ} {b : ℕ} {o : Option ℕ} → FoundAt s 0 b o → is_some o ≡ true → has b s ≡ true
+found_has {s} {b} {o = Some r} f h = has_in b s (omega (arith, f.found.place, f.inside r refl))
+found_has {s} {b} {o = None} f h = cc
 
-  pub found_has_not : length s ≤ r → has b s ≡ false
-  found_has_not h = has_not b s (omega (arith, f.place))
+pub found_has_not : {s : List ℕ} {b : ℕ} {o : Option ℕ} → FoundAt s 0 b o → is_some o ≡ false → has b s ≡ false
+found_has_not {s} {b} {o = Some r} f h = cc
+found_has_not {s} {b} {o = None} f h = has_not b s (omega (arith, f.found.place))

@@ -15,8 +15,7 @@ use Rattle.format.specs.Keylist.{add, below, decimal_from, parts_of, word_of, wo
 use Rattle.format.proofs.SheetPlaces.{front}
 use Rattle.format.proofs.Tests.{Test, holds, fails, ltb_test}
 use Rattle.keylines.specs.Reasons.{bad_word}
-use Rattle.keylines.specs.Answers.{Counts, Found, word_is, TooMany}
-use Rattle.keylines.specs.declared.types.Word.{Word}
+use Rattle.keylines.specs.Answers.{Counts, Found, decimal_digit, TooMany}
 use Rattle.keylines.proofs.TextLaws.{part_here, part_left}
 use Rattle.keylines.proofs.PairLaws.{ahead, ahead_nothing, ahead_snoc, take_more, counts, low_within, high_within, in_within}
 
@@ -34,17 +33,21 @@ from_nil : (n : ℕ) → decimal_from n [] ≡ some n
 unfolding decimal_from
 from_nil n = refl
 
-from_digit : (n b : ℕ) (s : List ℕ) → 48 ≤ b → b ≤ 57 → decimal_from n (b ∷ s) ≡ decimal_from (n * 10 + (b - 48)) s
+from_on : (n b : ℕ) (s : List ℕ) {d : ℕ} → some d ≡ decimal_digit b → decimal_from n (b ∷ s) ≡ decimal_from (n * 10 + d) s
 unfolding decimal_from
-from_digit n b s k h = rw (in_within 0x30 0x39 b k h)
+from_on n b s {d} e = go (within 0x30 0x39 b) e
+  where
+    go : (t : Bool) → some d ≡ if t (some (b - 0x30)) none → if t (decimal_from (n * 10 + (b - 0x30)) s) none ≡ decimal_from (n * 10 + d) s
+    go true e = let z : b - 0x30 ≡ d = cc in ap (λ (x : ℕ). decimal_from (n * 10 + x) s) z
+    go false e = cc
 
-from_low : (n b : ℕ) (s : List ℕ) → b < 48 → decimal_from n (b ∷ s) ≡ none
+from_bad : (n b : ℕ) (s : List ℕ) → none ≡ decimal_digit b → decimal_from n (b ∷ s) ≡ none
 unfolding decimal_from
-from_low n b s h = rw (low_within 0x30 0x39 b h)
-
-from_high : (n b : ℕ) (s : List ℕ) → 57 < b → decimal_from n (b ∷ s) ≡ none
-unfolding decimal_from
-from_high n b s h = rw (high_within 0x30 0x39 b (omega arith) h)
+from_bad n b s e = go (within 0x30 0x39 b) e
+  where
+    go : (t : Bool) → none ≡ if t (some (b - 0x30)) none → if t (decimal_from (n * 10 + (b - 0x30)) s) none ≡ none
+    go true e = cc
+    go false e = refl
 
 -- digits never make a number smaller, so one that is too large stays so
 from_large : (m n : ℕ) (s : List ℕ) → m ≤ n → below m (decimal_from n s) ≡ none
@@ -56,45 +59,43 @@ from_large m n (b ∷ s) h = go (within 0x30 0x39 b) (from_large m (n * 10 + (b 
     go true ih = ih
     go false ih = refl
 
--- the digits before i are read as n
+-- the first i digits are read as n
 pub record DigitsRead (s : List ℕ) (n i : ℕ) : Type 0 where
-  pub place : i ≤ length s
-  pub some_digits : 0 < length s
-  pub few : length s ≤ 10
   pub small : n < 4294967296
   pub read : decimal_from 0 s ≡ decimal_from n (drop i s)
 
-pub word_start : (s : List ℕ) → (length s ≡ 0 → ⊥) → length s ≤ 10 → DigitsRead s 0 0
-word_start s h k = record { place = omega arith; some_digits = go (length s) h; few = k; small = omega arith; read = refl }
-  where
-    go : (m : ℕ) → (m ≡ 0 → ⊥) → 0 < m
-    go zero h = absurd (h refl)
-    go (suc m) h = omega arith
+pub word_start : (s : List ℕ) → DigitsRead s 0 0
+word_start s = record { small = omega arith; read = refl }
 
 module _ {s : List ℕ} {n i : ℕ} (v : DigitsRead s n i) where
-  -- a word is what is left makes of the number read
-  is : (o : Option ℕ) → decimal_from n (drop i s) ≡ o → below (2 ^ 32) o ≡ word_of s
+  -- no word is read where what is left makes none of the number read
+  no_word : below (2 ^ 32) (decimal_from n (drop i s)) ≡ none → none ≡ word_of s
   unfolding word_of
-  is o e = sym (ap (λ (t : Bool). keep t (below (2 ^ 32) (decimal_from 0 s))) (in_within 1 10 (length s) v.some_digits v.few) ∙ ap (below (2 ^ 32)) (v.read ∙ e))
+  no_word e = sym (ap (λ (o : Option ℕ). keep (within 1 10 (length s)) (below (2 ^ 32) o)) v.read ∙ ap (keep (within 1 10 (length s))) e ∙ go (within 1 10 (length s)))
+    where
+      go : (t : Bool) → keep {A = ℕ} t none ≡ none
+      go true = refl
+      go false = refl
 
-  pub word_low : i < length s → get_or s i 0 < 48 → none ≡ word_of s
-  word_low h k = is none (ap (decimal_from n) (front s i h) ∙ from_low n _ _ k)
+  pub word_end : 1 ≤ length s → length s ≤ 10 → length s ≤ i → some n ≡ word_of s
+  unfolding word_of
+  word_end l h e =
+      let k : decimal_from 0 s ≡ some n = v.read ∙ ap (decimal_from n) (drop_of_length-le s e) ∙ from_nil n in
+      rw (in_within 1 10 (length s) l h, k, lt-ltb n (2 ^ 32) v.small)
 
-  pub word_high : i < length s → 57 < get_or s i 0 → none ≡ word_of s
-  word_high h k = is none (ap (decimal_from n) (front s i h) ∙ from_high n _ _ k)
+  module _ (h : i < length s) where
+    pub word_bad : none ≡ decimal_digit (get_or s i 0) → none ≡ word_of s
+    word_bad e = no_word (ap (below (2 ^ 32)) (ap (decimal_from n) (front s i h) ∙ from_bad n _ _ e))
 
-  pub word_end : length s ≤ i → some n ≡ word_of s
-  word_end h = ap (λ (t : Bool). if t (some n) none) (sym (lt-ltb n (2 ^ 32) v.small)) ∙ is (some n) (ap (decimal_from n) (drop_of_length-le s h) ∙ from_nil n)
+    module _ {d : ℕ} (e : some d ≡ decimal_digit (get_or s i 0)) where
+      on : decimal_from n (drop i s) ≡ decimal_from (n * 10 + d) (drop (i + 1) s)
+      on = ap (decimal_from n) (front s i h) ∙ from_on n _ _ e
 
-  module _ (h : i < length s) (k : 48 ≤ get_or s i 0) (l : get_or s i 0 ≤ 57) {d : ℕ} (e : d ≡ get_or s i 0 - 48) where
-    on : decimal_from n (drop i s) ≡ decimal_from (n * 10 + d) (drop (i + 1) s)
-    on = ap (decimal_from n) (front s i h) ∙ from_digit n _ _ k l ∙ ap (λ (x : ℕ). decimal_from (n * 10 + x) (drop (i + 1) s)) (sym e)
+      pub word_large : 4294967295 < n * 10 + d → none ≡ word_of s
+      word_large large = no_word (ap (below (2 ^ 32)) on ∙ from_large (2 ^ 32) (n * 10 + d) (drop (i + 1) s) large)
 
-    pub word_large : 4294967295 < n * 10 + d → none ≡ word_of s
-    word_large large = sym (from_large (2 ^ 32) (n * 10 + d) (drop (i + 1) s) large) ∙ is _ on
-
-    pub word_next : n * 10 + d ≤ 4294967295 → DigitsRead s (n * 10 + d) (i + 1)
-    word_next small = record { place = omega arith; some_digits = v.some_digits; few = v.few; small = omega arith; read = v.read ∙ on }
+      pub word_next : {m : ℕ} → m ≡ n * 10 + d → m < 4294967296 → DigitsRead s m (i + 1)
+      word_next {m} k small = record { small = small; read = v.read ∙ on ∙ ap (λ (x : ℕ). decimal_from x (drop (i + 1) s)) (sym k) }
 
 -- ---- words
 
@@ -149,54 +150,50 @@ module _ {text ty : List ℕ} {start n r : ℕ} (v : WordsTaken text ty start n)
       go true (holds q) = (_, part_here f q)
       go false (fails q) = (_, part_left f (omega (arith, f.within)))
 
-  module _ {w : Word} (e : word_is w ≡ word_of part) where
-    pub words_bad : w ≡ Word.Bad → bad_word 1 (parts_of text) ≡ some (n + 1)
-    words_bad h =
-        v.judged ∙ ap (bad_word (n + 1)) behind.1 ∙ bad_one (n + 1) part behind.0
-        ∙ ap (λ (o : Option ℕ). if (is_some o) (bad_word (n + 1 + 1) behind.0) (some (n + 1))) (sym e ∙ ap word_is h)
+  pub words_bad : none ≡ word_of part → bad_word 1 (parts_of text) ≡ some (n + 1)
+  words_bad e =
+      v.judged ∙ ap (bad_word (n + 1)) behind.1 ∙ bad_one (n + 1) part behind.0
+      ∙ ap (λ (o : Option ℕ). if (is_some o) (bad_word (n + 1 + 1) behind.0) (some (n + 1))) (sym e)
 
-    module _ {x : ℕ} (h : w ≡ Word.Is x) where
-      its : word_of part ≡ some x
-      its = sym e ∙ ap word_is h
+  module _ {x : ℕ} (its : some x ≡ word_of part) where
+    -- the words with this one, and what is left
+    more : (ps : List (List ℕ)) → parts_of (drop start text) ≡ part ∷ ps → type_in text ≡ ahead (v.words ++ (x ∷ [])) (words_of ps)
+    unfolding type_in
+    more ps k =
+        v.read
+        ∙ ap (ahead v.words) (ap words_of k ∙ words_one part ps ∙ ap (λ (o : Option ℕ). add o (words_of ps)) (sym its))
+        ∙ ahead_snoc v.words x (words_of ps)
 
-      -- the words with this one, and what is left
-      more : (ps : List (List ℕ)) → parts_of (drop start text) ≡ part ∷ ps → type_in text ≡ ahead (v.words ++ (x ∷ [])) (words_of ps)
+    counted : n + 1 ≡ length (v.words ++ (x ∷ []))
+    counted = omega (arith, v.count, length-append v.words (x ∷ []))
+
+    -- the buffer with this one
+    module _ {after : List ℕ} (put : after ≡ set ty n x) where
+      kept : n + 1 ≤ length after → take (n + 1) after ≡ v.words ++ (x ∷ [])
+      kept k =
+          let room : n < length ty = omega (arith, ap length put, length-set ty n x) in
+          ap (take (n + 1)) put ∙ take_more ty n x room ∙ ap (λ (l : List ℕ). l ++ (x ∷ [])) (v.stored (omega arith))
+
+      pub words_next : r < length text → WordsTaken text after (r + 1) (n + 1)
       unfolding type_in
-      more ps k =
-          v.read
-          ∙ ap (ahead v.words) (ap words_of k ∙ words_one part ps ∙ ap (λ (o : Option ℕ). add o (words_of ps)) its)
-          ∙ ahead_snoc v.words x (words_of ps)
+      words_next k =
+          record {
+            words = v.words ++ (x ∷ []);
+            count = counted;
+            place = omega arith;
+            few = omega (arith, v.few, f.from);
+            stored = kept;
+            read = more _ (part_here f k);
+            judged =
+                v.judged ∙ ap (bad_word (n + 1)) (part_here f k) ∙ bad_one (n + 1) part (parts_of (drop (r + 1) text))
+                ∙ ap (λ (o : Option ℕ). if (is_some o) (bad_word (n + 1 + 1) (parts_of (drop (r + 1) text))) (some (n + 1))) (sym its);
+          }
 
-      counted : n + 1 ≡ length (v.words ++ (x ∷ []))
-      counted = omega (arith, v.count, length-append v.words (x ∷ []))
-
-      -- the buffer with this one
-      module _ {after : List ℕ} (put : after ≡ set ty n x) where
-        kept : n + 1 ≤ length after → take (n + 1) after ≡ v.words ++ (x ∷ [])
-        kept k =
-            let room : n < length ty = omega (arith, ap length put, length-set ty n x) in
-            ap (take (n + 1)) put ∙ take_more ty n x room ∙ ap (λ (l : List ℕ). l ++ (x ∷ [])) (v.stored (omega arith))
-
-        pub words_next : r < length text → WordsTaken text after (r + 1) (n + 1)
-        unfolding type_in
-        words_next k =
-            record {
-              words = v.words ++ (x ∷ []);
-              count = counted;
-              place = omega arith;
-              few = omega (arith, v.few, f.from);
-              stored = kept;
-              read = more _ (part_here f k);
-              judged =
-                  v.judged ∙ ap (bad_word (n + 1)) (part_here f k) ∙ bad_one (n + 1) part (parts_of (drop (r + 1) text))
-                  ∙ ap (λ (o : Option ℕ). if (is_some o) (bad_word (n + 1 + 1) (parts_of (drop (r + 1) text))) (some (n + 1))) its;
-            }
-
-        pub words_end : r ≡ length text → AllTaken text after (n + 1)
-        words_end k =
-            record {
-              words = v.words ++ (x ∷ []);
-              count = counted;
-              stored = kept;
-              are = more _ (part_left f k) ∙ ap (ahead (v.words ++ (x ∷ []))) words_none ∙ ap some (append-nil (v.words ++ (x ∷ [])));
-            }
+      pub words_end : r ≡ length text → AllTaken text after (n + 1)
+      words_end k =
+          record {
+            words = v.words ++ (x ∷ []);
+            count = counted;
+            stored = kept;
+            are = more _ (part_left f k) ∙ ap (ahead (v.words ++ (x ∷ []))) words_none ∙ ap some (append-nil (v.words ++ (x ∷ [])));
+          }

@@ -166,6 +166,11 @@ pub record Put (buffer after : List ℕ) (at r : ℕ) (xs : List ℕ) : Type 0 w
   pub end : r ≡ at + length xs
   pub long : length after ≡ length buffer
 
+-- a row; none is longer than 59 bytes
+pub record RowPut (buffer after : List ℕ) (at r : ℕ) (xs : List ℕ) : Type 0 where
+  pub put : Put buffer after at r xs
+  pub short : length xs ≤ 59
+
 -- a number's digits and the byte behind them
 pub record NumberPut (buffer after : List ℕ) (at r n behind : ℕ) : Type 0 where
   pub put : Put buffer after at r (decimal n ++ (behind ∷ []))

@@ -5,7 +5,7 @@ ghost use Rattle.keylines.specs.Answers.{NoTypePut, KeyTold, LineAsked, LineTold
 
 use crate::finding::find;
 use crate::keys::pairs;
-use crate::rows::put_row;
+use crate::rows::{MAX_ROW, put_row};
 use decode::Refused;
 use format::Refusal;
 
@@ -14,9 +14,6 @@ pub const KEY_ROOM: usize = 32768;
 
 // Room for a piece: some hundred rows at least.
 pub const PIECE_ROOM: usize = 16384;
-
-// No row is longer.
-const MAX_ROW: usize = 59;
 
 // A row with no value begun.
 const BAD_LINE: Refused = Refused {

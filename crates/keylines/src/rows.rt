@@ -1,7 +1,7 @@
 // A row of what is written: four numbers in decimal, parted by tabs, and a line feed.
 ghost use Rattle.std.specs.Prelude.{◌≡◌, ◌+◌, ◌≤◌, ◌<◌, length};
-ghost use Rattle.format.specs.Keylist.{decimal};
-ghost use Rattle.keylines.specs.Answers.{Put, NumberPut, row_of};
+ghost use Rattle.format.specs.Keylist.{decimal, row};
+ghost use Rattle.keylines.specs.Answers.{Put, NumberPut, RowPut, row_of};
 
 use decode::Refused;
 
@@ -29,17 +29,29 @@ fn put_number(out: &mut [u8], at: usize, n: u64, behind: u8) -> usize
     end + 1
 }
 
-// The row of a line: its place, refusal, detail and values begun.
-pub fn put_row(out: &mut [u8], at: usize, place: u64, told: Result<usize, Refused>) -> usize
-    requires { at + length (row_of place told) ≤ length out.old }
-    ensures { Put out.old out.new at result (row_of place told) }
+// No row is longer.
+pub const MAX_ROW: usize = 59;
+
+// A row's numbers.
+fn put_numbers(out: &mut [u8], at: usize, place: u64, no: u32, detail: u64, begun: usize) -> usize
+    requires { (place < 100000) × (at + MAX_ROW ≤ length out.old) }
+    ensures { RowPut out.old out.new at result (row place no detail begun) }
 {
-    let (no, detail, begun) = match told {
-        Ok(begun) => (0, 0, begun),
-        Err(Refused { why, begun }) => (why.number(), why.detail(), begun),
-    };
     let a = put_number(out, at, place, b'\t');
     let b = put_number(out, a, u64::from(no), b'\t');
     let c = put_number(out, b, detail, b'\t');
     put_number(out, c, begun as u64, b'\n')
+}
+
+// The row of a line: its place, and the values begun or the refusal as well.
+pub fn put_row(out: &mut [u8], at: usize, place: u64, told: Result<usize, Refused>) -> usize
+    requires { (place < 100000) × (at + MAX_ROW ≤ length out.old) }
+    ensures { RowPut out.old out.new at result (row_of place told) }
+{
+    match told {
+        Ok(begun) => put_numbers(out, at, place, 0, 0, begun),
+        Err(Refused { why, begun }) => {
+            put_numbers(out, at, place, why.number(), why.detail(), begun)
+        }
+    }
 }

@@ -11,14 +11,15 @@ use crate::reason::Reason;
 fn type_word(text: &[u8]) -> Option<u32>
     ensures { option_of result ≡ word_of text.now }
 {
-    if !matches!(text.len(), 1..=10) {
+    let 1..=10 = text.len() else {
         return None;
-    }
-    let mut n: u64 = 0;
+    };
+    let mut n: u32 = 0;
     for b in text {
-        n = n * 10 + u64::from(decimal(*b)?);
+        let digit = decimal(*b)?;
+        n = n.checked_mul(10)?.checked_add(u32::from(digit))?;
     }
-    u32::try_from(n).ok()
+    Some(n)
 }
 
 // Puts a word into a buffer; one behind its end is left out. Stays: behind `get_mut` a proof knows no element of the buffer.

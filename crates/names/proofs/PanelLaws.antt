@@ -3,9 +3,9 @@ use Rattle.std.proofs.Common.{◌≡◌, ℕ, zero, suc, Bool, List, [], ◌∷�
 use Rattle.format.specs.Fields.{get_str_call, part_of}
 use Rattle.format.specs.Chars.{Step, step_at}
 use Rattle.scalar.specs.Answers as scalar
-use Rattle.scalar.specs.declared.payloads.GotPart.{GotPart}
 use Rattle.chars.specs.Reader.{step_of, closed}
 use Rattle.chars.specs.Names.{steps_from, steps_of}
+use Rattle.chars.specs.Scrolling.{GotPart}
 use Rattle.chars.proofs.ScrollLaws.{not_refused, scrolled}
 use Rattle.names.specs.Steps.{step_in, tells_of, Gives, Shows}
 use Rattle.names.specs.declared.Seen.{Seen}
@@ -27,9 +27,8 @@ as_many (x ∷ l) = ap suc (as_many l)
 
 twelve : (s : List ℕ) (g : Given) → Gives (0x21 ∷ s) g → map step_of (tells_of g) ≡ steps_of (0x21 ∷ s) (length (tells_of g))
 twelve s g e =
-    let z : g.refusal ≡ 0 = not_refused s g.refusal g.detail (closed g.refusal) e.opens in
-    let n : length (tells_of g) ≡ 12 = as_many g.seen ∙ ap length e.steps ∙ many s 0 (closed g.refusal) 12 in
-    rw n (told g.seen ∙ e.steps ∙ rw z)
+    let n : length (tells_of g) ≡ 12 = as_many g.seen ∙ ap length e.steps ∙ many s 0 (closed g.opened) 12 in
+    rw n (told g.seen ∙ e.steps ∙ rw (not_refused s g.opened e.opens).1)
 
 pub shows : (name scratch : List ℕ) (g : Given) (got : GotPart) (left : List ℕ) → Gives name g → scalar.Gives (get_str_call name scratch) got left
     → Shows name scratch (record { given = g; got = got }) left

@@ -2,8 +2,10 @@
 use Rattle.std.proofs.Common.{◌≡◌, ℕ, suc, ◌+◌, ◌<◌, Bool, List, [], ◌∷◌, ◌++◌, map, length, take, drop, set, sym, refl, ap, ◌∙◌, append_assoc, append-nil, add-one, arith, length-set, take_all, take-suc-set}
 use mathlib.Core.List.{map-append}
 use Rattle.format.specs.Chars.{Step, Stepped, step_at}
+use Rattle.std.specs.Prelude.{Result}
+use Rattle.format.specs.declared.refusal.Refusal.{Refusal}
 use Rattle.chars.specs.Reader.{closed, Opens, Begins, Moves}
-use Rattle.chars.specs.declared.Step.{Step as Told}
+use Rattle.chars.specs.Reader as reader
 use Rattle.chars.specs.declared.StrChars.{StrChars}
 use Rattle.chars.specs.Names.{steps_from}
 use Rattle.names.specs.Steps.{step_in, start, with, Gives}
@@ -12,11 +14,11 @@ use Rattle.names.specs.declared.Given.{Given}
 
 -- the first i steps are noted, and a reader of the text behind the mark has the others left
 pub record Going (name text : List ℕ) (at : ℕ) (done : Bool) (g : Given) (i left : ℕ) : Type 0 where
-  pub opens : Opens name g.refusal g.detail (closed g.refusal)
+  pub opens : Opens name g.opened
   pub held : text ≡ drop 1 name
   pub room : length g.seen ≡ 12
   pub place : i + left ≡ 12
-  pub steps : map step_in (take i g.seen) ++ steps_from text at done left ≡ steps_from (drop 1 name) 0 (closed g.refusal) 12
+  pub steps : map step_in (take i g.seen) ++ steps_from text at done left ≡ steps_from (drop 1 name) 0 (closed g.opened) 12
 
 -- one step of those that are left; and none
 module _ (text : List ℕ) (at : ℕ) (done : Bool) where
@@ -35,13 +37,13 @@ noted l i x rest h =
     rw (a, map-append step_in (take i l) (x ∷ []), append_assoc)
 
 module _ (name text : List ℕ) (at : ℕ) (done : Bool) where
-  pub begins : (n d : ℕ) → Begins name n d text at done → Going name text at done (start n d) 0 12
-  begins n d e = record {
-    opens = record { answer = e.opens.answer; no_detail = e.opens.no_detail; finished = refl };
+  pub begins : (o : Result Unit Refusal) → Begins name o text at done → Going name text at done (start o) 0 12
+  begins o e = record {
+    opens = e.opens;
     held = e.held;
     room = refl;
     place = refl;
-    steps = rw (e.held, e.at_start, e.opens.finished);
+    steps = rw (e.held, e.at_start, e.finished);
   }
 
   pub ends : (g : Given) (i : ℕ) → Going name text at done g i 0 → Gives name g
@@ -54,7 +56,7 @@ module _ (name : List ℕ) (h : StrChars) where
   abbrev found : Stepped
   found = step_at h.bytes.now h.at h.done
 
-  pub goes_on : (g : Given) (i n : ℕ) (t : Told) (h' : StrChars) → Going name h.bytes.now h.at h.done g i (suc n) → Moves h t h'
+  pub goes_on : (g : Given) (i n : ℕ) (t : reader.Step) (h' : StrChars) → Going name h.bytes.now h.at h.done g i (suc n) → Moves h t h'
       → Going name h'.bytes.now h'.at h'.done (with g i t) (i + 1) n
   goes_on g i n t h' e m = record {
     opens = e.opens;

@@ -5,8 +5,10 @@
 ghost use Rattle.std.specs.Prelude.{◌≡◌, ◌<◌};
 ghost use Rattle.names.specs.Steps.{start, with, Gives, Shows};
 
-use chars::Step;
-use scalar::GotPart;
+use format::Refusal;
+use scalar::{Place, Taken};
+use show::Hex;
+use std::io;
 
 // How many steps are taken of each name: the cells of the panel.
 const STEPS: usize = 12;
@@ -14,30 +16,25 @@ const STEPS: usize = 12;
 // A step, as an element of an array.
 #[derive(Clone, Copy)]
 struct Seen {
-    step: Step,
+    step: Result<Option<u32>, Refusal>,
 }
 
-// A reader's opening and its first steps. Refusal 0 is none.
+// A reader's opening and its first steps.
 #[derive(Clone, Copy)]
 struct Given {
-    refusal: u32,
-    detail: u64,
+    opened: Result<(), Refusal>,
     seen: [Seen; STEPS],
 }
 
-fn begun(refusal: u32, detail: u64) -> Given
-    ensures { result ≡ start refusal detail }
+fn begun(opened: Result<(), Refusal>) -> Given
+    ensures { result ≡ start opened }
 {
-    let seen = [Seen { step: Step::End }; STEPS];
-    Given {
-        refusal,
-        detail,
-        seen,
-    }
+    let seen = [Seen { step: Ok(None) }; STEPS];
+    Given { opened, seen }
 }
 
 // One step more.
-fn noted(given: Given, i: usize, step: Step) -> Given
+fn noted(given: Given, i: usize, step: Result<Option<u32>, Refusal>) -> Given
     requires { i < 12 }
     ensures { result ≡ with given i step }
 {
@@ -52,12 +49,10 @@ fn read(name: &[u8]) -> Given
 {
     let o = chars::str_chars(name);
     let mut reader = o.chars;
-    let mut given = begun(o.refusal, o.detail);
-    let mut i = 0;
-    while i < STEPS {
+    let mut given = begun(o.opened);
+    for i in 0..STEPS {
         let step = chars::next(&mut reader);
         given = noted(given, i, step);
-        i += 1;
     }
     given
 }
@@ -66,7 +61,7 @@ fn read(name: &[u8]) -> Given
 #[derive(Clone, Copy)]
 struct Panel {
     given: Given,
-    got: GotPart,
+    got: Result<Taken<Place>, Refusal>,
 }
 
 // The cells hold the beginning of the name that get_str decodes, where it accepts.
@@ -78,110 +73,88 @@ fn beside(name: &[u8], scratch: &mut [u8]) -> Panel
     Panel { given, got }
 }
 
-fn print_refused(no: u32, detail: u64) {
-    show::text(b" refused ");
-    show::number(no as u64);
-    show::text(b" ");
-    show::number(detail);
-}
-
-// Prints a step; answers 1 for one behind which a reader gives only the end.
-fn print_step(step: Step) -> u64 {
-    match step {
-        Step::Char(code) => {
-            show::text(b" U+");
-            io::print_hex(1, code as u64, 4);
-            0
-        }
-        Step::End => {
-            show::text(b" end");
-            1
-        }
-        Step::Refused(no, detail) => {
-            print_refused(no, detail);
-            1
-        }
-    }
-}
-
 // The steps up to the end or a refusal, and one more.
-fn print_steps(given: Given) {
-    let seen = given.seen;
-    let mut last: u64 = 0;
-    for i in 0..STEPS {
-        let s = seen[i];
-        let step = s.step;
-        if last < 2 {
-            last = std::num::wrapping_add_u64(last, print_step(step));
+fn print_steps(rt: &impl Print, given: Given) -> io::Result<()> {
+    let mut last = false;
+    for seen in given.seen {
+        match seen.step {
+            Ok(Some(code)) => print!(rt; " U+{code:04x}")?,
+            Ok(None) => print!(rt; " end")?,
+            Err(why) => print!(rt; " {why}")?,
         }
+        if last {
+            break;
+        }
+        last = !matches!(seen.step, Ok(Some(_)));
+    }
+    Ok(())
+}
+
+fn print_given(rt: &impl Print, given: Given) -> io::Result<()> {
+    if let Err(why) = given.opened {
+        print!(rt; " {why}")?;
+    }
+    print_steps(rt, given)
+}
+
+// A name that get_str decodes, or its refusal, at a line's end.
+fn print_got(
+    rt: &impl Print,
+    name: &[u8],
+    scratch: &[u8],
+    got: Result<Taken<Place>, Refusal>,
+) -> io::Result<()> {
+    match got {
+        Ok(_) => println!(rt; "; get_str [{}]", Hex(scalar::payload(name, scratch, got))),
+        Err(why) => println!(rt; "; get_str {why}"),
     }
 }
 
-fn print_given(given: Given) {
-    if given.refusal != 0 {
-        print_refused(given.refusal, given.detail);
-    }
-    print_steps(given);
+fn scratch_line(rt: &impl Print, name: &[u8], scratch: &mut [u8]) -> io::Result<()> {
+    let panel = beside(name, scratch);
+    print!(rt; "{}:", Hex(name))?;
+    print_given(rt, panel.given)?;
+    print_got(rt, name, scratch, panel.got)
 }
 
-// A name that get_str decodes, or its refusal.
-fn print_got<'a>(name: &'a [u8], scratch: &'a [u8], got: GotPart) {
-    show::text(b"; get_str");
-    if let GotPart::Refused(no, detail) = got {
-        print_refused(no, detail);
-        return;
-    }
-    let payload = scalar::payload(name, scratch, got);
-    show::text(b" [");
-    show::bytes(payload, payload.len());
-    show::text(b"]");
-}
-
-fn scratch_line(name: &[u8], scratch: &mut [u8]) {
-    let b = beside(name, scratch);
-    let given = b.given;
-    let got = b.got;
-    show::bytes(name, name.len());
-    show::text(b":");
-    print_given(given);
-    print_got(name, scratch, got);
-    show::text(b"\n");
-}
-
-fn name_line(name: &[u8]) {
+fn name_line(rt: &impl Print, name: &[u8]) -> io::Result<()> {
     let mut scratch = [0u8; 32];
-    scratch_line(name, &mut scratch);
+    scratch_line(rt, name, &mut scratch)
 }
 
 // The same with too little scratch.
-fn short_line(name: &[u8]) {
+fn short_line(rt: &impl Print, name: &[u8]) -> io::Result<()> {
     let mut scratch = [0u8; 3];
-    scratch_line(name, &mut scratch);
+    scratch_line(rt, name, &mut scratch)
 }
 
-fn main() {
+fn main(rt: HostRuntime) -> io::Result<()> {
+    let rt = &rt;
     // plain: one character, a name longer than the panel, the empty name
-    name_line(b"\x21\x41\x00");
-    name_line(b"\x21ultramarine blue\x00");
-    name_line(b"\x21\x00");
+    name_line(rt, b"\x21\x41\x00")?;
+    name_line(rt, b"\x21ultramarine blue\x00")?;
+    name_line(rt, b"\x21\x00")?;
     // characters of two, three and four bytes, and an escaped zero
-    name_line(b"\x21\xc3\xa9\x00\xff\x41\x00");
-    name_line(b"\x21\xc3\xa9\xe2\x82\xac\xf0\x9f\x98\x80\x00\xff\x7a\x00");
+    name_line(rt, b"\x21\xc3\xa9\x00\xff\x41\x00")?;
+    name_line(
+        rt,
+        b"\x21\xc3\xa9\xe2\x82\xac\xf0\x9f\x98\x80\x00\xff\x7a\x00",
+    )?;
     // too little scratch for a name with an escape: the panel shows it all the same
-    short_line(b"\x21\xc3\xa9\x00\xff\x41\x00");
+    short_line(rt, b"\x21\xc3\xa9\x00\xff\x41\x00")?;
     // bytes behind the run
-    name_line(b"\x21\x41\x00\x80");
+    name_line(rt, b"\x21\x41\x00\x80")?;
     // no text: a byte that leads nothing, an escape within a character
-    name_line(b"\x21\x41\x80\x00");
-    name_line(b"\x21\x41\x80\x00\x00");
-    name_line(b"\x21\xc2\x00\xff\x00");
+    name_line(rt, b"\x21\x41\x80\x00")?;
+    name_line(rt, b"\x21\x41\x80\x00\x00")?;
+    name_line(rt, b"\x21\xc2\x00\xff\x00")?;
     // too few bytes for the lead, where get_str says that it is no text; and the other way round
-    name_line(b"\x21\xe2\x00");
-    name_line(b"\x21\x80");
+    name_line(rt, b"\x21\xe2\x00")?;
+    name_line(rt, b"\x21\x80")?;
     // no end
-    name_line(b"\x21");
-    name_line(b"\x21\x41");
+    name_line(rt, b"\x21")?;
+    name_line(rt, b"\x21\x41")?;
     // refused openings: another mark, no bytes
-    name_line(b"\x22\x00");
-    name_line(b"");
+    name_line(rt, b"\x22\x00")?;
+    name_line(rt, b"")
 }

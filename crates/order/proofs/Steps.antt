@@ -41,8 +41,8 @@ lower q e = let z : Ordering.eq ≡ Ordering.lt = ap order_of (sym e) ∙ q in l
 higher : {c : Answer} → order_of c ≡ Ordering.gt → c ≡ Equal → ⊥
 higher q e = let z : Ordering.eq ≡ Ordering.gt = ap order_of (sym e) ∙ q in let n : ◌≡◌ {A = ℕ} 0 1 = cc in omega arith
 
-same_rank : {m n l : ℕ} {c : Answer} → n ≡ l → c ≡ nat_cmp m n → c ≡ Equal → m ≡ l
-same_rank {m} {n} e k z = compare_eq m n (sym (by_cmp m n k) ∙ ap order_of z) ∙ e
+differ : {m n : ℕ} {c : Answer} → c ≡ nat_cmp m n → (m ≡ n → ⊥) → c ≡ Equal → ⊥
+differ {m} {n} k h e = h (compare_eq m n (sym (by_cmp m n k) ∙ ap order_of e))
 
 -- a part that differs decides
 decided : (o : Answer) (d q : Ordering) → order_of o ≡ d → (o ≡ Equal → ⊥) → then d q ≡ d
@@ -155,7 +155,7 @@ Anywhere pa pb s k x y r = (wa wb : List ℕ) → k ≡ rank_of (get_or wa s.i 0
     → (k ≡ 0x00 → ⊥) → (k ≡ 0x22 → ⊥) → (k ≡ 0x52 → ⊥) → One wa pa wb pb s.i s.p s.j s.q r
 
 abbrev standing : (order : Answer) (i p j q : ℕ) → Walk
-standing order i p j q = record { order = order; i = i; p = p; j = j; q = q }
+standing order i p j q = record { i = i; p = p; j = j; q = q; order = order }
 
 -- such values end at most two words on
 walked : {pa pb : List ℕ} {s : Walk} {k x y : ℕ} (r : Walk) → s.i ≤ r.i → r.i ≤ s.i + 2 → r.p ≤ length pa → r.j ≤ s.j + 2 → r.q ≤ length pb → Anywhere pa pb s k x y r → CompareScalar pa pb s k x y r
@@ -233,19 +233,17 @@ module _ {wa pa wb pb : List ℕ} {s : Walk} (w : Within wa pa wb pb s) where
   pub gone_b : length wb ≤ s.j → CompareValue wa pa wb pb s s
   gone_b l = stays (record { one = λ a b e f g h u v. absurd (omega (arith, (kind_is wb pb s.j s.q g h b v).0)) })
 
-  module _ {k n : ℕ} (ka : k ≡ rank_of (get_or wa s.i 0)) (kn : n ≡ rank_of (get_or wb s.j 0)) {c : Answer} (kc : c ≡ nat_cmp k n) {t : Bool} (kt : t ≡ is_ne c) where
-    pub apart : t ≡ true → CompareValue wa pa wb pb s (staying c s)
-    apart z = stays (record {
-      one = λ a b e f g h u v.
-          let o = by_rank a b in
-          let x : compare (rank a) (rank b) ≡ compare k n = sym (ap₂ compare (rank_at u ka) (rank_at v kn)) in
-          let y : cmp_val a b ≡ compare k n = o.1 ∙ ap (λ (d : Ordering). then d o.0) x ∙ decided c (compare k n) o.0 (by_cmp k n kc) (unequal kt z) in
-          record { order = by_cmp k n kc ∙ sym y; ends = λ d. absurd (unequal kt z d) };
-    })
+  pub apart : {k n : ℕ} → k ≡ rank_of (get_or wa s.i 0) → n ≡ rank_of (get_or wb s.j 0) → (k ≡ n → ⊥) → {c : Answer} → c ≡ nat_cmp k n → CompareValue wa pa wb pb s (staying c s)
+  apart {k} {n} ka kn h {c} kc = stays (record {
+    one = λ a b e f g i u v.
+        let o = by_rank a b in
+        let x : compare (rank a) (rank b) ≡ compare k n = sym (ap₂ compare (rank_at u ka) (rank_at v kn)) in
+        let y : cmp_val a b ≡ compare k n = o.1 ∙ ap (λ (d : Ordering). then d o.0) x ∙ decided c (compare k n) o.0 (by_cmp k n kc) (differ kc h) in
+        record { order = by_cmp k n kc ∙ sym y; ends = λ d. absurd (differ kc h d) };
+  })
 
-    module _ (z : t ≡ false) where
-      pub both : k ≡ rank_of (get_or wb s.j 0)
-      both = same_rank kn kc (equal kt z)
+pub both : {k n m : ℕ} → k ≡ n → n ≡ m → k ≡ m
+both e f = e ∙ f
 
 module _ {wa pa wb pb : List ℕ} {s : Walk} (w : Within wa pa wb pb s) {k : ℕ} (ka : k ≡ rank_of (get_or wa s.i 0)) (kb : k ≡ rank_of (get_or wb s.j 0)) where
   pub null : s.i < length wa → s.j < length wb → k ≡ 0x00 → CompareValue wa pa wb pb s (standing Equal (s.i + 1) s.p (s.j + 1) s.q)
@@ -285,23 +283,24 @@ module _ {wa pa wb pb : List ℕ} {s : Walk} (w : Within wa pa wb pb s) {k : ℕ
           m.says.row us vs e f g h (second u ka some).1 (second v kb some).1 (record_in wa pa s.i s.p e f us u) (record_in wb pb s.j s.q g h vs v));
     }
 
-    module _ (y : k ≡ 0x52) {d : Answer} (kd : d ≡ nat_cmp (get_or wa (s.i + 1) 0) (get_or wb (s.j + 1) 0)) {t : Bool} (kt : t ≡ is_ne d) where
-      tags : {a b : Val} {e f g h : ℕ} → ValueIn wa pa s.i s.p a e f → ValueIn wb pb s.j s.q b g h → order_of d ≡ compare (word_of a) (word_of b)
-      tags u v = by_cmp _ _ kd ∙ ap₂ compare (second u ka some).1 (second v kb some).1
+    module _ (y : k ≡ 0x52) where
+      tags : {a b : Val} {e f g h : ℕ} → ValueIn wa pa s.i s.p a e f → ValueIn wb pb s.j s.q b g h → compare (get_or wa (s.i + 1) 0) (get_or wb (s.j + 1) 0) ≡ compare (word_of a) (word_of b)
+      tags u v = ap₂ compare (second u ka some).1 (second v kb some).1
 
-      pub tags_apart : t ≡ true → CompareValue wa pa wb pb s (staying d s)
+      pub tags_apart : (get_or wa (s.i + 1) 0 ≡ get_or wb (s.j + 1) 0 → ⊥) → {d : Answer} → d ≡ nat_cmp (get_or wa (s.i + 1) 0) (get_or wb (s.j + 1) 0) → CompareValue wa pa wb pb s (staying d s)
       unfolding built kind_of cmp_val
-      tags_apart x = stays w (on_rank ka kb 0x52 y (λ a b e f g h u v.
-          let l = decided d (compare (number_in a) (number_in b)) (cmp_val (payload_in a) (payload_in b)) (tags u v) (unequal kt x) in
-          record { order = tags u v ∙ sym l; ends = λ n. absurd (unequal kt x n) }))
+      tags_apart x {d} kd = stays w (on_rank ka kb 0x52 y (λ a b e f g h u v.
+          let o = by_cmp _ _ kd ∙ tags u v in
+          let l = decided d (compare (number_in a) (number_in b)) (cmp_val (payload_in a) (payload_in b)) o (differ kd x) in
+          record { order = o ∙ sym l; ends = λ n. absurd (differ kd x n) }))
 
-      pub a_union : {r : Walk} → CompareValue wa pa wb pb (inside s) r → t ≡ false → CompareValue wa pa wb pb s r
+      pub a_union : {r : Walk} → CompareValue wa pa wb pb (inside s) r → get_or wa (s.i + 1) 0 ≡ get_or wb (s.j + 1) 0 → CompareValue wa pa wb pb s r
       unfolding built kind_of cmp_val
       a_union m x = record {
         on = omega (arith, m.on);
         within = m.within;
         says = on_rank ka kb 0x52 y (λ a b e f g h u v.
-            let o : compare (number_in a) (number_in b) ≡ Ordering.eq = sym (tags u v) ∙ ap order_of (equal kt x) in
+            let o : compare (number_in a) (number_in b) ≡ Ordering.eq = sym (tags u v) ∙ ap (λ (n : ℕ). compare n (get_or wb (s.j + 1) 0)) x ∙ alike _ in
             rw o (m.says.one (payload_in a) (payload_in b) e f g h (union_in wa pa s.i s.p e f (number_in a) (payload_in a) u) (union_in wb pb s.j s.q g h (number_in b) (payload_in b) v)));
       }
 

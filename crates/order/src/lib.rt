@@ -9,7 +9,7 @@ ghost use Rattle.order.specs.Compare.{compared_of, rank_of, Within, CompareScala
 use format::Refusal;
 use std::cmp::Ordering;
 
-// The rank of a kind, as the definition of the order has it: the least mark of the kind.
+// The rank of a kind, as the definition of the order has it: the least mark of the kind. A number and no enum, for the definition compares these numbers.
 const RANK_NULL: u64 = 0x00;
 
 const RANK_STR: u64 = 0x21;
@@ -29,14 +29,15 @@ const TOP_BIT: u64 = 0x8000_0000_0000_0000;
 // Where a walk stands in the words and the pool of both sheets, and how what it passed compares. Only an equal walk goes on.
 #[derive(Clone, Copy)]
 pub struct Walk {
-    pub order: Ordering,
     pub i: usize,
     pub p: usize,
     pub j: usize,
     pub q: usize,
+    pub order: Ordering,
 }
 
 // The rank of a kind's number.
+#[tactic(auto, unfolding(crate::specs::Compare::rank_of))]
 fn rank_of(kind: u64) -> u64
     ensures { result ≡ rank_of kind }
 {
@@ -55,7 +56,7 @@ fn rank_of(kind: u64) -> u64
 fn flipped(x: u64) -> u64
     ensures { result ≡ offset x }
 {
-    std::num::wrapping_add_u64(x, TOP_BIT)
+    x.wrapping_add(TOP_BIT)
 }
 
 // Two values that are no groups, of one rank and with the second words x and y.
@@ -95,16 +96,16 @@ fn compare_value(wa: &[u64], pa: &[u8], wb: &[u64], pb: &[u8], s: Walk) -> Walk
 {
     let i = s.i;
     let j = s.j;
-    if wa.len() <= i {
-        return s;
-    }
-    if wb.len() <= j {
+    if wa.len() <= i || wb.len() <= j {
         return s;
     }
     let rank = rank_of(wa[i]);
-    let kinds = rank.cmp(&rank_of(wb[j]));
-    if kinds.is_ne() {
-        return Walk { order: kinds, ..s };
+    let other = rank_of(wb[j]);
+    if rank != other {
+        return Walk {
+            order: rank.cmp(&other),
+            ..s
+        };
     }
     if rank == RANK_NULL {
         return Walk {
@@ -114,10 +115,7 @@ fn compare_value(wa: &[u64], pa: &[u8], wb: &[u64], pb: &[u8], s: Walk) -> Walk
             ..s
         };
     }
-    if wa.len() - i < 2 {
-        return s;
-    }
-    if wb.len() - j < 2 {
+    if wa.len() - i < 2 || wb.len() - j < 2 {
         return s;
     }
     let x = wa[i + 1];
@@ -132,9 +130,11 @@ fn compare_value(wa: &[u64], pa: &[u8], wb: &[u64], pb: &[u8], s: Walk) -> Walk
         return compare_fields(wa, pa, wb, pb, inside, x, y);
     }
     if rank == RANK_UNION {
-        let tags = x.cmp(&y);
-        if tags.is_ne() {
-            return Walk { order: tags, ..s };
+        if x != y {
+            return Walk {
+                order: x.cmp(&y),
+                ..s
+            };
         }
         return compare_value(wa, pa, wb, pb, inside);
     }

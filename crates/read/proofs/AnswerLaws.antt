@@ -89,8 +89,3 @@ plus_plus w p b w1 p1 b1 (Err f) = ap (λ (k : ℕ). Err (bad f.why k)) (sym (ad
 pub plus_zero : (r : Result Walked Refused) → r ≡ plus 0 0 0 r
 plus_zero (Ok x) = λ j. Ok (good x.at x.next (sym (zero-add x.words) j) (sym (zero-add x.pool) j) (sym (zero-add x.begun) j))
 plus_zero (Err f) = ap (λ (k : ℕ). Err (bad f.why k)) (sym (zero-add f.begun))
-
--- ---- words and values begun more
-
-pub more_ok : (w b : ℕ) {r : Result Walked Refused} {x : Walked} → r ≡ Ok x → Ok (good x.at x.next (w + x.words) x.pool (b + x.begun)) ≡ plus w 0 b r
-more_ok w b {x = x} e = (λ j. Ok (good x.at x.next (w + x.words) (sym (zero-add x.pool) j) (b + x.begun))) ∙ sym (ap (plus w 0 b) e)

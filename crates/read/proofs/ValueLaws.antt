@@ -70,13 +70,13 @@ module _ {ty : List ℕ} {at tag place left : ℕ} {us : Alts} {e : ℕ} (z : Pi
       }))
 
 -- the ways out of closing one, whose payload was read
-module _ {ty bytes : List ℕ} {left : ℕ} {asked : Bool} {r s : Result Walked Refused} {x : Walked} (e : r ≡ Ok x) {o : Result ℕ Refusal}
+module _ {ty bytes : List ℕ} {left : ℕ} {asked : Bool} {r : Result Walked Refused} {x : Walked} (e : r ≡ Ok x) {o : Result ℕ Refusal}
     (h : answered o ≡ end_of (take (length bytes - x.next) (drop x.next bytes)) (group_end (take (length bytes - x.next) (drop x.next bytes)))) where
-  pub c_not : {f : Refusal} → o ≡ Err f → s ≡ Err (bad f x.begun) → ClosesUnion ty bytes left asked r s
-  c_not f q = rw (e, q) (unended (rw (part_rest x.next bytes, f) at h))
+  pub c_not : {f : Refusal} → o ≡ Err f → ClosesUnion ty bytes left asked r (Err (bad f x.begun))
+  c_not f = rw e (unended (rw (part_rest x.next bytes, f) at h))
 
-  pub c_done : {used end : ℕ} → o ≡ Ok used → (asked ≡ true → SkipsAlts ty x.at left end) → s ≡ Ok (good end (x.next + used) x.words x.pool x.begun) → ClosesUnion ty bytes left asked r s
-  c_done f y q = rw (e, q) (ended (rw (part_rest x.next bytes, f) at h) y)
+  pub c_done : {used end : ℕ} → o ≡ Ok used → (asked ≡ true → SkipsAlts ty x.at left end) → ClosesUnion ty bytes left asked r (Ok (good end (x.next + used) x.words x.pool x.begun))
+  c_done f y = rw e (ended (rw (part_rest x.next bytes, f) at h) y)
 
 pub c_room : (bytes : List ℕ) (next : ℕ) {o : Result ℕ Refusal} {used : ℕ} → answered o ≡ end_of (take (length bytes - next) (drop next bytes)) (group_end (take (length bytes - next) (drop next bytes)))
     → next ≤ length bytes → o ≡ Ok used → next + used ≤ length bytes

@@ -53,17 +53,11 @@ pub fn walk_scalar(ty: &[u32], at: usize, rest: &[u8], i: usize) -> Result<Walke
     requires plain { (get_or ty.now at 0 < 5) × (i + length rest.now < 2 ^ 64) }
     ensures { ScalarWalk ty.now at rest.now i result }
 {
-    let kind = ty[at];
     let j = at + 1;
-    if kind == format::KIND_INT {
-        return walk_int(rest, i, j);
+    match ty[at] {
+        format::KIND_INT => walk_int(rest, i, j),
+        format::KIND_STR => walk_str(rest, i, j),
+        format::KIND_BYTES => walk_bytes(rest, i, j),
+        _ => walk_ref(rest, i, ty[j], at + 2),
     }
-    if kind == format::KIND_STR {
-        return walk_str(rest, i, j);
-    }
-    if kind == format::KIND_BYTES {
-        return walk_bytes(rest, i, j);
-    }
-    let predicate = ty[j];
-    walk_ref(rest, i, predicate, at + 2)
 }

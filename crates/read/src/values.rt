@@ -32,7 +32,7 @@ pub fn walk_value(
     walk_plain(ty, place, bytes, i, depth, asked)
 }
 
-// A value under a type that is not optional.
+// A value under a type that is not optional. The kinds below a record's are a range, so tests say it as plainly as a match.
 #[cycle(walks)]
 fn walk_plain(
     ty: &[u32],

@@ -1,5 +1,5 @@
 -- A payload from a place in its run on: up to the next zero, and over it.
-use Rattle.std.proofs.Common.{◌≡◌, ℕ, suc, ◌+◌, ◌-◌, ◌<◌, ◌≤◌, List, [], ◌∷◌, ◌++◌, length, get_or, drop, sym, refl, ap, ◌∙◌, add-one, arith, length-append, drop_of_length-le, drop-cons, drop-drop}
+use Rattle.std.proofs.Common.{◌≡◌, ℕ, suc, ◌+◌, ◌-◌, ◌<◌, ◌≤◌, List, [], ◌∷◌, ◌++◌, length, get_or, drop, refl, ap, ◌∙◌, add-one, arith, length-append, drop_of_length-le, drop-cons, drop-drop}
 use lib.Seq.{slice, length-slice}
 use Rattle.format.specs.Fields.{put}
 use Rattle.blocks.specs.Zeros.{ZeroFrom}

@@ -1,5 +1,5 @@
 -- A mark in front of bytes: what the code's test of it says of reading behind it.
-use Rattle.std.proofs.Common.{◌≡◌, ℕ, suc, ◌-◌, ◌<◌, eqb, List, [], ◌∷◌, length, drop, sym, refl, ap, arith, eq-eqb, eqb-true}
+use Rattle.std.proofs.Common.{◌≡◌, ℕ, suc, eqb, List, [], ◌∷◌, length, drop, sym, ap, arith, eqb-true}
 use Rattle.format.specs.Answer.{ok, refused}
 use Rattle.format.specs.Read.{Read, bad, marked}
 use Rattle.scalar.specs.Answers.{begins_with}

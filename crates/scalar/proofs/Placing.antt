@@ -1,6 +1,6 @@
 -- What a call that hands out a payload answers, and the scratch buffer afterwards.
 use Rattle.std.specs.Prelude.{Result, Ok, Err}
-use Rattle.std.proofs.Common.{◌≡◌, ℕ, ◌+◌, ◌-◌, ◌^◌, ◌<◌, ◌≤◌, Bool, true, false, eqb, List, [], ◌∷◌, length, take, drop, sym, refl, ◌∙◌, arith, length-drop, lt-ltb, le-leb}
+use Rattle.std.proofs.Common.{◌≡◌, ℕ, ◌+◌, ◌-◌, ◌^◌, ◌<◌, ◌≤◌, Bool, true, false, eqb, List, [], ◌∷◌, length, drop, refl, ◌∙◌, arith, length-drop, lt-ltb, le-leb}
 use borrow.Author.Tests.{lt-leb}
 use Rattle.format.specs.Answer.{if, ok, refused}
 use Rattle.format.specs.Utf8.{utf8}

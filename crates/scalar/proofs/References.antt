@@ -1,5 +1,5 @@
 -- What reading and judging a reference finds, by what the code tests.
-use Rattle.std.proofs.Common.{◌≡◌, ℕ, ◌-◌, ◌^◌, ◌<◌, ◌≤◌, eqb, List, [], ◌∷◌, length, get_or, take, drop, sym, refl, ap, ◌∙◌, arith, length-drop, eq-eqb, ne_eqb}
+use Rattle.std.proofs.Common.{◌≡◌, ℕ, ◌-◌, ◌^◌, ◌<◌, ◌≤◌, eqb, List, [], ◌∷◌, length, take, drop, sym, refl, ap, ◌∙◌, arith, eq-eqb, ne_eqb}
 use Rattle.format.specs.Answer.{if, ok, refused}
 use Rattle.format.specs.Scalar.{sequence_of, predicate_of}
 use Rattle.format.specs.Encode.{fits_ref}

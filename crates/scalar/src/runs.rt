@@ -53,17 +53,16 @@ pub fn run_end(bytes: &[u8], from: usize) -> usize
     ensures { result ≡ run_end bytes.now from }
 {
     let mut i: usize = from;
-    let end = loop {
+    loop {
         let z = blocks::zero_from(bytes, i);
         if bytes.len() - z < 2 {
-            break z;
+            return z;
         }
         if bytes[z + 1] != format::MARK_ESCAPE {
-            break z;
+            return z;
         }
         i = z + 2;
-    };
-    end
+    }
 }
 
 // Measures the run that the bytes begin with, if it ends. Each zero of its payload has one 00 in the run, and the FF behind it is no payload.

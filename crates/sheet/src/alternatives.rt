@@ -50,7 +50,7 @@ pub fn alternative(ty: &[u32], at: usize, tag: u64) -> Choice
     }
 }
 
-// The place behind `count` alternatives from `at` on, of an admitted sheet.
+// The place behind `count` alternatives from `at` on, of an admitted sheet, where it is never none.
 pub fn skip_alternatives(ty: &[u32], at: usize, count: u32) -> usize
     ensures { SkipsAlts ty.now at count result }
 {

@@ -1,4 +1,4 @@
-// Type sheets: where a type ends, and whether a sheet is admitted.
+// Type sheets: where a type ends, and whether a sheet is admitted. A kind stays a number, for the lent words are C's.
 ghost use Rattle.std.specs.Prelude.{◌≡◌, true, ◌+◌, ◌≤◌, ◌<◌, length, drop, get_or};
 ghost use Rattle.format.specs.TypeSheet.{type_at, types, alts, type_of, is_some};
 ghost use Rattle.sheet.specs.Places.{Ends, SkipsType, SkipsTypes};
@@ -108,7 +108,7 @@ pub fn admit_type(ty: &[u32]) -> bool
     type_end(ty, 0, format::MAX_SHEET_GROUPS) == Some(ty.len())
 }
 
-// The place behind the type at `at`, of an admitted sheet, where it is asked for: it is not passed in vain.
+// The place behind the type at `at`, of an admitted sheet, where it is asked for: it is not passed in vain. There it is never none, so a number and no Option.
 pub fn skip_type(ty: &[u32], at: usize, asked: bool) -> usize
     ensures { asked ≡ true → SkipsType ty.now at result }
 {
@@ -118,7 +118,7 @@ pub fn skip_type(ty: &[u32], at: usize, asked: bool) -> usize
     at
 }
 
-// The place behind `count` types from `at` on, of an admitted sheet.
+// The place behind `count` types from `at` on, of an admitted sheet, where it is never none.
 pub fn skip_fields(ty: &[u32], at: usize, count: u32) -> usize
     ensures { SkipsTypes ty.now at count result }
 {
@@ -132,8 +132,5 @@ pub fn skip_fields(ty: &[u32], at: usize, count: u32) -> usize
 pub fn asks(left: u32, asked: bool) -> bool
     ensures { (1 < left → result ≡ true) × (asked ≡ true → result ≡ true) }
 {
-    if 1 < left {
-        return true;
-    }
-    asked
+    1 < left || asked
 }

@@ -1,4 +1,4 @@
-// Value sheets: where a value ends, and whether a sheet is admitted.
+// Value sheets: where a value ends, and whether a sheet is admitted. A kind stays a number, for the lent words are C's.
 ghost use Rattle.std.specs.Prelude.{◌≡◌, ◌+◌, ◌≤◌, ◌<◌, length, drop, get_or};
 ghost use Rattle.format.specs.TypeSheet.{is_some};
 ghost use Rattle.format.specs.ValueSheet.{value_at, values, value_of};

@@ -1,6 +1,9 @@
 // What the test programs print: bytes in hexadecimal, and the beginning of a buffer or the refusal.
 #![tactic(auto)]
 
+ghost use Rattle.std.specs.Prelude.{◌≡◌, take, IfOk};
+ghost use Rattle.show.specs.Wrote.{wrote_by};
+
 use format::Refusal;
 use std::{fmt, io};
 
@@ -18,7 +21,9 @@ impl<'a> fmt::Display for Hex<'a> {
 }
 
 // The first n bytes, or all of a shorter one.
-pub fn first(s: &[u8], n: usize) -> &[u8] {
+pub fn first(s: &[u8], n: usize) -> &[u8]
+    ensures { result.now ≡ take n s.now }
+{
     s.get(..n).unwrap_or(s)
 }
 
@@ -35,7 +40,9 @@ pub fn wrote<'a>(
     rt: &impl Print,
     answer: Result<usize, Refusal>,
     out: &'a [u8],
-) -> io::Result<&'a [u8]> {
+) -> io::Result<&'a [u8]>
+    ensures { IfOk result (λ bytes. bytes.now ≡ wrote_by answer out.now) }
+{
     match answer {
         Ok(n) => Ok(first(out, n)),
         Err(e) => {

@@ -16,10 +16,7 @@ use scalar::{groups, ints, runs};
 fn group_ends(rest: &[u8], depth: u32) -> bool
     ensures { result ≡ (ltb 0 depth && ends_here rest.now) }
 {
-    if depth == 0 {
-        return false;
-    }
-    groups::ends_here(rest)
+    0 < depth && groups::ends_here(rest)
 }
 
 // A null. Its escape is due inside a group, and where it is required.

@@ -13,7 +13,7 @@ use Rattle.chars.specs.declared.Stepped.{Stepped}
 use Rattle.cursor.specs.declared.Cursor.{Cursor}
 use Rattle.scalar.specs.declared.payloads.Place.{Place}
 use Rattle.format.specs.declared.refusal.Refusal.{Refusal}
-use Rattle.std.specs.Prelude.{Result, Ok, Err, ◌×◌}
+use Rattle.std.specs.Prelude.{Result, Ok, Err}
 use Rattle.tuple.specs.StepNumbers.{part_of, wrote_step, opened_length, opening_length, reader_step, char_of, PartTaken, StepWritten}
 use Rattle.tuple.specs.declared.answers.Length.{Length}
 use Rattle.tuple.specs.declared.answers.Number.{Number}

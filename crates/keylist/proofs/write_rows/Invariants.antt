@@ -5,7 +5,7 @@ use Rattle.keylines.specs.Answers.{PieceAsked}
 use Rattle.keylist.proofs.write_rows.Given as goal
 
 abbrev pub invariant-loop-left : goal.invariant-loop-left
-invariant-loop-left l = PieceAsked l.input l.ty l.left
+invariant-loop-left g l = PieceAsked l.input l.ty l.left
 
 abbrev pub decreases-loop-left : goal.decreases-loop-left
-decreases-loop-left l = length l.input - l.left.at
+decreases-loop-left g l = length l.input - l.left.at

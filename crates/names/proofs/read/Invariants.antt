@@ -6,6 +6,3 @@ use Rattle.names.proofs.read.Given as goal
 
 abbrev pub invariant-loop-i : goal.invariant-loop-i
 invariant-loop-i l = Going l.name l.reader.bytes.now l.reader.at l.reader.done l.given l.i (12 - l.i)
-
-abbrev pub decreases-loop-i : goal.decreases-loop-i
-decreases-loop-i l = 12 - l.i

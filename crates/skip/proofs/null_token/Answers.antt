@@ -9,12 +9,12 @@ returns-in_err-n c =
     let p = err_from_is_err_and c.from_residual.result c.from_residual.ensures.1 in
     rw (p.1, p.2)
     (elim c.if-escape.branch [
-      then-escape w ↦ laws.null_refused _ _ _ c.requires (laws.due_asked _ _ w.null-is w.if-escape.true) c.in_err-n.ensures
-    | else-escape w ↦ laws.null_refused _ _ _ c.requires (laws.due_inside _ _ w.null-is w.if-escape.false) c.in_err-n.ensures
+      | then-escape w ↦ laws.null_refused _ _ _ c.requires (laws.due_asked _ _ w.null-is w.if-escape.true) c.in_err-n.ensures
+      | else-escape w ↦ laws.null_refused _ _ _ c.requires (laws.due_inside _ _ w.null-is w.if-escape.false) c.in_err-n.ensures
     ])
 
 pub returns : goal.returns
 returns c = elim c.if-escape.branch [
-    then-escape w ↦ laws.null_passed _ _ _ c.requires (laws.due_asked _ _ w.null-is w.if-escape.true) c.in_ok-n.ensures
+  | then-escape w ↦ laws.null_passed _ _ _ c.requires (laws.due_asked _ _ w.null-is w.if-escape.true) c.in_ok-n.ensures
   | else-escape w ↦ laws.null_passed _ _ _ c.requires (laws.due_inside _ _ w.null-is w.if-escape.false) c.in_ok-n.ensures
 ]

@@ -1,25 +1,19 @@
+-- `find` meets its contract: the first such byte of the rest is the first from the place on.
+use Rattle.std.proofs.lemmas.List.{take_rest}
 use mathlib.Core.Path.{refl}
 use native.Mathlib.Omega.{arith}
 use Rattle.keylines.proofs.TextLaws as laws
 use Rattle.keylines.proofs.finding.find.Goals as goal
 
-pub loop-i-init : goal.loop-i-init
-loop-i-init c = record { from = omega arith; within = c.requires; left = refl }
+pub returns-in_err-behind : goal.returns-in_err-behind
+returns-in_err-behind c =
+    let a = c.args in
+    rw c.from_residual.ensures (laws.found_none a.text.now a.at a.byte c.requires (rw (take_rest a.text.now a.at) at c.in_err-behind.ensures))
 
-pub bounds-text-i : goal.bounds-text-i
-bounds-text-i c = omega arith
-
-pub returns-then-text-i : goal.returns-then-text-i
-returns-then-text-i c = laws.found_here c.loop-i.invariant c.loop-i-test.true c.if-text-i.true
-
-pub overflow_add-i : goal.overflow_add-i
-overflow_add-i c = omega arith
-
-pub loop-i-smaller : goal.loop-i-smaller
-loop-i-smaller c = omega arith
-
-pub loop-i-preserved : goal.loop-i-preserved
-loop-i-preserved c = laws.found_not c.loop-i.invariant c.loop-i-test.true c.if-text-i.false
+pub overflow_add-result : goal.overflow_add-result
+overflow_add-result c =
+    let a = c.args in
+    omega (arith, (laws.found_some a.text.now a.at a.byte c.requires (rw (take_rest a.text.now a.at) at c.in_ok-behind.ensures)).inside _ refl)
 
 pub returns : goal.returns
-returns c = laws.found_end c.loop-i.invariant c.loop-i-test.false
+returns c = let a = c.args in laws.found_some a.text.now a.at a.byte c.requires (rw (take_rest a.text.now a.at) at c.in_ok-behind.ensures)

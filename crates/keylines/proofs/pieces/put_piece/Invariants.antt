@@ -5,7 +5,7 @@ use Rattle.keylines.proofs.RowLaws as laws
 use Rattle.keylines.proofs.pieces.put_piece.Given as goal
 
 abbrev pub invariant-loop-at : goal.invariant-loop-at
-invariant-loop-at l = laws.PieceDone l.ty l.input (record { at = l.initial.at; line = l.initial.number }) l.initial.piece l.piece l.at l.number l.end
+invariant-loop-at l = laws.PieceDone l.ty l.input (record { at = l.initial.at; line = l.initial.line }) l.initial.piece l.piece l.at l.line l.len
 
 abbrev pub decreases-loop-at : goal.decreases-loop-at
 decreases-loop-at l = length l.input - l.at

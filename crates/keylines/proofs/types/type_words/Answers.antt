@@ -1,59 +1,49 @@
-use mathlib.Core.Path.{refl, ap, ◌∙◌}
+-- `type_words` meets its contract: a bad word, or all of them, by whether they fit.
+use Rattle.std.proofs.lemmas.Result.{err_from_is_err_and}
+use mathlib.Core.Bool.{not}
+use mathlib.Core.Path.{◌≡◌, ap, ◌∙◌}
+use Prim.Native.Nat.{◌+◌}
 use native.Mathlib.Omega.{arith}
 use lib.ListN.{length, length-set}
-use Rattle.keylines.proofs.TextLaws.{not_end}
+use Rattle.keylines.specs.declared.reason.Reason.{Reason}
+use Rattle.keylines.proofs.TextLaws as text
 use Rattle.keylines.proofs.WordLaws as laws
 use Rattle.keylines.proofs.types.type_words.Goals as goal
 
-pub loop-x-init : goal.loop-x-init
-loop-x-init c = (laws.words_start _ _, refl)
-
-pub find-end-requires : goal.find-end-requires
-find-end-requires c = c.loop-x.invariant.0.place
-
-pub slice_bounds-type_word-count : goal.slice_bounds-type_word-count
-slice_bounds-type_word-count c = omega arith
-
-pub overflow_add-result : goal.overflow_add-result
-overflow_add-result c = omega arith
-
-pub shape_of-ty-in_default : goal.shape_of-ty-in_default
-shape_of-ty-in_default c = c.loop-x.invariant.1
-
-pub returns-in_default : goal.returns-in_default
-returns-in_default c = record { are = laws.words_bad c.loop-x.invariant.0 c.find-end.ensures c.type_word.ensures c.in_default.is }
-
-pub overflow_add-n : goal.overflow_add-n
-overflow_add-n c =
-    let l = c.loop-x in
-    omega (arith, l.invariant.0.few, l.invariant.0.place)
-
-pub overflow_add-start : goal.overflow_add-start
-overflow_add-start c = omega arith
-
-pub loop-x-smaller : goal.loop-x-smaller
-loop-x-smaller c = omega arith
+pub returns-in_err-x : goal.returns-in_err-x
+returns-in_err-x c =
+    let f = rw (← c.unwrap_or-end.ensures) at c.find-tab.ensures.found in
+    let none = c.in_err-x.ensures.ok_part in
+    let p = err_from_is_err_and c.from_residual.result c.from_residual.ensures.1 in
+    let why = rw none at c.in_err-x.ensures.value in
+    let e : p.0 ≡ Reason.BadWord (c.loop-x.n + 1) = cc in
+    rw (p.1, e) (record { are = laws.words_bad c.loop-x.invariant.0 f (rw none at c.type_word.ensures) })
 
 pub loop-x-preserved : goal.loop-x-preserved
 loop-x-preserved c =
-    let inv = c.loop-x.invariant in
-    let f = c.find-end.ensures in (
-      laws.words_next inv.0 f c.in-Is.ensures refl c.keep_word.ensures (not_end f c.if-end-text.false),
-      ap length c.keep_word.ensures ∙ simp length-set inv.1,
+    let e = c.find-tab.ensures in
+    let f = rw (← c.unwrap_or-end.ensures) at e.found in
+    let tab = c.is_none.ensures ∙ ap not c.if-is_none.false in
+    let more = text.before_end {s = c.args.text.now} {at = c.loop-x.start} {b = 9} {o = c.find-tab.result} e tab in
+    let word = rw c.in_ok-x.ensures.ok_part at c.type_word.ensures in (
+      laws.words_next c.loop-x.invariant.0 f word c.keep_word.ensures (rw (← c.unwrap_or-end.ensures) at more),
+      ap length c.keep_word.ensures ∙ simp length-set c.loop-x.invariant.1,
     )
-
-pub shape_of-ty-then-ty-n : goal.shape_of-ty-then-ty-n
-shape_of-ty-then-ty-n c = ap length c.keep_word.ensures ∙ simp length-set c.loop-x.invariant.1
 
 pub returns-then-ty-n : goal.returns-then-ty-n
 returns-then-ty-n c =
-    let all = laws.words_end c.loop-x.invariant.0 c.find-end.ensures c.in-Is.ensures refl c.keep_word.ensures c.if-end-text.true in
+    let e = c.find-tab.ensures in
+    let f = rw (← c.unwrap_or-end.ensures) at e.found in
+    let no_tab = c.is_none.ensures ∙ ap not c.if-is_none.true in
+    let word = rw c.in_ok-x.ensures.ok_part at c.type_word.ensures in
+    let all = laws.words_end c.loop-x.invariant.0 f word c.keep_word.ensures (c.unwrap_or-end.ensures ∙ text.at_end e no_tab) in
     record { are = laws.all_many all c.if-ty-n.true }
-
-pub shape_of-ty : goal.shape_of-ty
-shape_of-ty c = ap length c.keep_word.ensures ∙ simp length-set c.loop-x.invariant.1
 
 pub returns : goal.returns
 returns c =
-    let all = laws.words_end c.loop-x.invariant.0 c.find-end.ensures c.in-Is.ensures refl c.keep_word.ensures c.if-end-text.true in
+    let e = c.find-tab.ensures in
+    let f = rw (← c.unwrap_or-end.ensures) at e.found in
+    let no_tab = c.is_none.ensures ∙ ap not c.if-is_none.true in
+    let word = rw c.in_ok-x.ensures.ok_part at c.type_word.ensures in
+    let all = laws.words_end c.loop-x.invariant.0 f word c.keep_word.ensures (c.unwrap_or-end.ensures ∙ text.at_end e no_tab) in
     record { are = laws.all_fit all c.if-ty-n.false }

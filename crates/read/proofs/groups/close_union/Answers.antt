@@ -1,6 +1,6 @@
 -- By cases of the payload's answer, and then of what stands at its end: one law for each way out.
 use native.Mathlib.Omega.{arith}
-use mathlib.Core.Path.{refl, sym, ap, subst, ◌∙◌}
+use mathlib.Core.Path.{sym, ap, subst, ◌∙◌}
 use Rattle.std.specs.Prelude.{Err}
 use Rattle.std.proofs.lemmas.Result.{err_from_is_err_and}
 use Rattle.read.specs.Walk.{ClosesUnion, kept}
@@ -21,7 +21,7 @@ overflow_add-result c =
     omega (arith, laws.c_room c.args.bytes.now _ c.close.ensures h c.in-Ok.is)
 
 pub returns-in-Err : goal.returns-in-Err
-returns-in-Err c = laws.c_not c.in_ok-payload.was c.close.ensures c.in-Err.is refl
+returns-in-Err c = laws.c_not c.in_ok-payload.was c.close.ensures c.in-Err.is
 
 pub returns-in-Ok : goal.returns-in-Ok
-returns-in-Ok c = laws.c_done c.in_ok-payload.was c.close.ensures c.in-Ok.is c.union_end.ensures refl
+returns-in-Ok c = laws.c_done c.in_ok-payload.was c.close.ensures c.in-Ok.is c.union_end.ensures

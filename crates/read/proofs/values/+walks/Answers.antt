@@ -1,4 +1,5 @@
-use Rattle.std.proofs.Common.{◌*◌, ◌^◌, ◌≤◌, take, ◌≡◌, Bool, true, List, ℕ, ◌+◌, ◌-◌, ◌<◌, drop, length, arith, get_or, ap}
+-- Each goal is what stands at its place (a turn of the loop, behind a record's opening, at an alternative, a blank or what is none), and the law of that way out.
+use Rattle.std.proofs.Common.{◌*◌, ◌^◌, ◌≤◌, take, ◌≡◌, List, ℕ, ◌-◌, ◌<◌, drop, length, arith, get_or, ap}
 use Rattle.std.specs.Prelude.{Result, Ok, Err, Option, Some, None}
 use Rattle.std.proofs.lemmas.Result.{err_from_is_err_and}
 use Rattle.format.specs.declared.refusal.Refusal.{Refusal}
@@ -9,8 +10,6 @@ use Rattle.scalar.specs.Answers.{got_int}
 use Rattle.scalar.specs.declared.taken.Taken.{Taken}
 use Rattle.sheet.specs.Places.{Picks}
 use Rattle.read.specs.Walk.{TypeAt}
-use Rattle.read.specs.declared.Walked.{Walked}
-use Rattle.read.specs.declared.Refused.{Refused}
 use Rattle.read.proofs.ValueLaws as laws
 use Rattle.read.proofs.BlankLaws as blanks
 use Rattle.read.proofs.FieldLaws as fields
@@ -159,10 +158,12 @@ walk_plain-close_union-requires t c =
 
 pub walk_plain-more-requires-2 : goal.walk_plain-more-requires-2
 walk_plain-more-requires-2 t c =
-    let y : c.alternative-choice.result.place ≡ Some c.in_ok-place.place = grind arith in
-    (omega arith, omega arith,
-    laws.v_union_small (in_union c.requires c.well_formed.0.1 c.if-kind-lt-KIND_RECORD.false c.if-kind-eq-KIND_RECORD.false c.open_union.ensures c.in_ok-opened.was c.alternative-choice.ensures.picks) y
-    c.walk_value-r.ensures _ c.close_union.ensures)
+    let y : c.alternative-choice.result.place ≡ Some c.in_ok-place.place = grind arith in (
+      omega arith,
+      omega arith,
+      laws.v_union_small (in_union c.requires c.well_formed.0.1 c.if-kind-lt-KIND_RECORD.false c.if-kind-eq-KIND_RECORD.false c.open_union.ensures c.in_ok-opened.was c.alternative-choice.ensures.picks) y
+          c.walk_value-r.ensures _ c.close_union.ensures,
+    )
 
 pub walk_plain-returns : goal.walk_plain-returns
 walk_plain-returns t c =

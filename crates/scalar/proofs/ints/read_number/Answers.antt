@@ -1,4 +1,4 @@
-use Rattle.std.proofs.Common.{◌≡◌, ℕ, ◌+◌, ◌*◌, ◌<◌, length, take, get_or, sym, refl, ap, ◌∙◌, arith, length-take-le, get_or-take, take_all}
+use Rattle.std.proofs.Common.{◌≡◌, ℕ, ◌+◌, ◌*◌, ◌<◌, take, refl, ap, ◌∙◌, arith, length-take-le, get_or-take, take_all}
 use Rattle.format.specs.Read.{number}
 use Rattle.scalar.proofs.Numbers.{number_take_suc, below_suc, below_56}
 use Rattle.scalar.proofs.ints.read_number.Goals as goal

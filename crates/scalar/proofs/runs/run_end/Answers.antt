@@ -2,14 +2,14 @@ use Rattle.std.proofs.Common.{refl, arith}
 use Rattle.scalar.proofs.Measures as laws
 use Rattle.scalar.proofs.runs.run_end.Goals as goal
 
-pub loop-z-init : goal.loop-z-init
-loop-z-init c = (c.requires, refl)
+pub loop-from-init : goal.loop-from-init
+loop-from-init c = (c.requires, refl)
 
-pub loop-z-smaller : goal.loop-z-smaller
-loop-z-smaller c = let f = c.zero_from-z.ensures.after in omega arith
+pub loop-from-smaller : goal.loop-from-smaller
+loop-from-smaller c = let f = c.zero_from-z.ensures.after in omega arith
 
-pub loop-z-preserved : goal.loop-z-preserved
-loop-z-preserved c = (omega arith, search laws.end_over)
+pub loop-from-preserved : goal.loop-from-preserved
+loop-from-preserved c = (omega arith, search laws.end_over)
 
 pub returns-then-bytes-z-lt2 : goal.returns-then-bytes-z-lt2
 returns-then-bytes-z-lt2 c = search laws.end_last

@@ -3,8 +3,8 @@ use Rattle.std.proofs.Common.{◌≡◌, ◌-◌, ◌≤◌, length}
 use Rattle.scalar.specs.Runs.{run_end}
 use Rattle.scalar.proofs.runs.run_end.Given as goal
 
-abbrev pub invariant-loop-z : goal.invariant-loop-z
-invariant-loop-z l = (l.i ≤ length l.bytes) × (run_end l.bytes l.i ≡ run_end l.bytes l.from)
+abbrev pub invariant-loop-from : goal.invariant-loop-from
+invariant-loop-from l = (l.i ≤ length l.bytes) × (run_end l.bytes l.i ≡ run_end l.bytes l.from)
 
-abbrev pub decreases-loop-z : goal.decreases-loop-z
-decreases-loop-z l = length l.bytes - l.i
+abbrev pub decreases-loop-from : goal.decreases-loop-from
+decreases-loop-from l = length l.bytes - l.i
