@@ -4,14 +4,12 @@ use mathlib.Core.List.{List}
 use mathlib.Core.Bool.{Bool, true}
 use Prim.Native.Nat.{ℕ, ◌+◌, ◌-◌, ◌*◌, ◌≤◌}
 use native.Mathlib.Omega.{arith}
-use borrow.Author.Tests.{eq-eqb, ne_eqb}
 use lib.ListN.{length, take, drop}
 use lib.Seq.{slice, length-slice}
 use Rattle.std.specs.Prelude.{Ok, Err}
-use Rattle.format.specs.Answer.{Answer, ok, refused, and_then}
+use Rattle.format.specs.Answer.{Answer, refused}
 use Rattle.format.specs.Refusals.{number_of, detail_of}
 use Rattle.format.specs.declared.refusal.Refusal.{Refusal}
-use Rattle.format.specs.declared.refusal.Refusal.TheVariants as made
 use Rattle.format.specs.Scalar.{int_bytes, uint_bytes, escaped}
 use Rattle.format.specs.Encode.{in_union}
 use Rattle.format.proofs.PlainLaws.{plain_pool, plain_bytes, pool_int, pool_run, bytes_int, run_length}

@@ -13,8 +13,9 @@ use Rattle.format.specs.TypeSheet.{nesting, nestings, max_groups}
 use Rattle.format.specs.Encode.{val_bytes, vals_bytes, fits, fits_all, fine}
 use Rattle.format.proofs.TypePlaces as types
 use Rattle.format.proofs.ValuePlaces as values
+use Rattle.format.specs.declared.refusal.Refusal.{Refusal}
 use Rattle.fit.specs.declared.Fitted.{Fitted}
-use Rattle.fit.specs.Fit.{Outcome, placed, Pair, Row, Standing, StandingRow, Brief, FitValue, FitFields}
+use Rattle.fit.specs.Fit.{placed, Pair, Row, Standing, StandingRow, Brief, FitValue, FitFields}
 
 -- what is left of the row ts, vs from the places t, w and p on; it decides, and what was passed is `sum` bytes long. Its types need stand only where they are asked for
 pub record Rest (ty words pool : List ℕ) (depth : ℕ) (asked : Bool) (ts : Tys) (vs : Vals) (e f g t w p sum left : ℕ) : Type 0 where
@@ -132,9 +133,8 @@ module _ {ty words pool : List ℕ} {at from start n depth : ℕ} {asked : Bool}
       }
 
   module _ (some : 0 < left) {ask : Bool} where
-    pub field_refused : {r : Outcome} → ((x : Fitted) → r ≡ Ok x → ⊥) → FitValue ty words pool t w p depth ask r → FitFields ty words pool at from start n depth asked r
-    field_refused {r = Ok y} never right = absurd (never y refl)
-    field_refused {r = Err d} never right =
+    pub field_refused : {d : Refusal} → FitValue ty words pool t w p depth ask (Err d) → FitFields ty words pool at from start n depth asked (Err d)
+    field_refused right =
         record {
           brief = tt;
           says = λ ts vs e f g r.

@@ -30,7 +30,6 @@ use Rattle.scalar.proofs.Escapes.{escaped_bounds}
 use Rattle.sheet.specs.Places.{Picks}
 use Rattle.sheet.proofs.PickLaws.{missing, picked}
 use Rattle.format.specs.declared.refusal.Refusal.TheVariants as made
-use Rattle.fit.specs.declared.Fitted.{Fitted}
 use Rattle.fit.specs.Fit.{Pair, Standing, StandingRow, Outcome, placed, leaf_in, ref_in, longer, len_of, Says, Brief, FitValue, FitFields, Closed}
 
 -- ---- the words at the places

@@ -5,7 +5,6 @@ use borrow.Author.Tests.{not-true, not-false}
 use Rattle.format.specs.Answer.{ok, refused}
 use Rattle.format.specs.TypeSheet.{is_some}
 use Rattle.format.specs.ValueSheet.{value_of}
-use Rattle.format.specs.Order.{cmp_val}
 use Rattle.format.specs.Calls.{compare_call}
 use Rattle.format.proofs.ValueLaws.{its_tree, admitted}
 use Rattle.format.proofs.ValuePlaces.{top}

@@ -9,7 +9,7 @@ ghost use Rattle.order.specs.Compare.{compared_of, rank_of, Within, CompareScala
 use format::Refusal;
 use std::cmp::Ordering;
 
-// The rank of a kind, as the definition of the order has it: the least mark of the kind.
+// The rank of a kind, as the definition of the order has it: the least mark of the kind. A number and no enum, for the definition compares these numbers.
 const RANK_NULL: u64 = 0x00;
 
 const RANK_STR: u64 = 0x21;
@@ -27,6 +27,7 @@ const RANK_BYTES: u64 = 0x53;
 const TOP_BIT: u64 = 0x8000_0000_0000_0000;
 
 // Where a walk stands in the words and the pool of both sheets, and how what it passed compares. Only an equal walk goes on.
+// The order stands last: in front, the copies of its padding cost a comparison up to a tenth.
 #[derive(Clone, Copy)]
 pub struct Walk {
     pub i: usize,
@@ -56,7 +57,7 @@ fn rank_of(kind: u64) -> u64
 fn flipped(x: u64) -> u64
     ensures { result ≡ offset x }
 {
-    std::num::wrapping_add_u64(x, TOP_BIT)
+    x.wrapping_add(TOP_BIT)
 }
 
 // Two values that are no groups, of one rank and with the second words x and y.

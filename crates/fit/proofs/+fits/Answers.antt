@@ -11,23 +11,25 @@ use Rattle.fit.proofs.+fits.Goals as goal
 pub fit_fields-loop-passed-init : goal.fit_fields-loop-passed-init
 fit_fields-loop-passed-init t c = start_left c.requires _ _ (omega arith)
 
-pub fit_fields-fit_value-found-requires : goal.fit_fields-fit_value-found-requires
-fit_fields-fit_value-found-requires t c =
+pub fit_fields-fit_value-requires : goal.fit_fields-fit_value-requires
+fit_fields-fit_value-requires t c =
     let i = c.loop-passed.invariant in
     (omega (arith, c.decreases, i.brief), next_stands c.requires i (omega arith))
 
-pub fit_fields-returns-in_default : goal.fit_fields-returns-in_default
-fit_fields-returns-in_default t c = field_refused c.loop-passed.invariant (omega arith) c.in_default.not-Ok c.fit_value-found.ensures
+pub fit_fields-returns-in_err-field : goal.fit_fields-returns-in_err-field
+fit_fields-returns-in_err-field t c =
+    let p = err_from_is_err_and c.from_residual.result c.from_residual.ensures.1 in
+    rw (p.1, p.2) (field_refused c.loop-passed.invariant (omega arith) c.in_err-field.ensures)
 
 pub fit_fields-overflow_add-row : goal.fit_fields-overflow_add-row
 fit_fields-overflow_add-row t c =
     let s = c.requires in
-    omega (arith, c.loop-passed.invariant.brief, c.in-Ok.ensures.brief, s.few, s.small)
+    omega (arith, c.loop-passed.invariant.brief, c.in_ok-field.ensures.brief, s.few, s.small)
 
 pub fit_fields-loop-passed-preserved : goal.fit_fields-loop-passed-preserved
 fit_fields-loop-passed-preserved t c =
-    let a = c.asks-end_asked.ensures in
-    field_passed c.loop-passed.invariant (omega arith) a.0 a.1 (omega arith) c.in-Ok.ensures
+    let a = c.asks-asks.ensures in
+    field_passed c.loop-passed.invariant (omega arith) a.0 a.1 (omega arith) c.in_ok-field.ensures
 
 pub fit_fields-returns : goal.fit_fields-returns
 fit_fields-returns t c = all_passed c.loop-passed.invariant (omega arith)

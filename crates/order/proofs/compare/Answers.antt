@@ -1,5 +1,4 @@
 -- The walk from both beginnings decides the values that the sheets hold; a sheet that is not admitted is refused before.
-use Rattle.std.proofs.Common.{refl}
 use Rattle.order.proofs.Verdict as laws
 use Rattle.order.proofs.compare.Goals as goal
 
