@@ -186,7 +186,7 @@ fn skipped_fields(rt: &impl Print) -> io::Result<()> {
 }
 
 // Records of one field, one in another, the innermost empty: a kind, a count, and so on, on a sheet of types or of values.
-pub fn fill<T: From<u8>>(sheet: &mut [T]) {
+pub fn fill<T: From<u8> + Drop>(sheet: &mut [T]) {
     for (i, word) in sheet.iter_mut().enumerate() {
         *word = T::from(if i % 2 == 0 { 5 } else { 1 });
     }
