@@ -46,21 +46,17 @@ fn span<F: FnOnce(&[u8], &[u8]) -> io::Result<()>>(
     }
 }
 
-// Does the key of a tank's batch, or of one without a number, lie between the ends?
-fn batch_in(
+// Does the key with these words, and a tag of its own, lie between the ends?
+fn lies_in(
     rt: &impl Print,
     ty: &[u32],
+    words: &[u64],
     tag: &[u8],
-    batch: &[u64],
     lower: &[u8],
     upper: &[u8],
 ) -> io::Result<bool> {
     let mut out = [0u8; 32];
-    let n = tag.len() as u64;
-    let batch = match batch {
-        [number] => key(rt, ty, &[5, 2, 3, n, 1, *number], tag, &mut out)?,
-        _ => key(rt, ty, &[5, 2, 3, n, 0], tag, &mut out)?,
-    };
+    let batch = key(rt, ty, words, tag, &mut out)?;
     Ok(between(batch, lower, upper))
 }
 
@@ -73,7 +69,8 @@ fn batches_in(
     upper: &[u8],
 ) -> io::Result<()> {
     for batch in [-1i64, 0, 39, 40, 41, 50, 59, 60, 61, 255, 256] {
-        if batch_in(rt, ty, tag, &[batch.cast_unsigned()], lower, upper)? {
+        let words = [5, 2, 3, tag.len() as u64, 1, batch.cast_unsigned()];
+        if lies_in(rt, ty, &words, tag, lower, upper)? {
             print!(rt; " {batch}")?;
         }
     }
@@ -87,8 +84,9 @@ fn tank_line(rt: &impl Print, tag: &[u8], lower: &[u8], upper: &[u8]) -> io::Res
 
 // The same of tanks whose batches may have no number.
 fn blank_line(rt: &impl Print, tag: &[u8], lower: &[u8], upper: &[u8]) -> io::Result<()> {
+    let words = [5, 2, 3, tag.len() as u64, 0];
     print!(rt; "    tank {}:", Hex(tag))?;
-    if batch_in(rt, &[5, 2, 3, 7, 1], tag, &[], lower, upper)? {
+    if lies_in(rt, &[5, 2, 3, 7, 1], &words, tag, lower, upper)? {
         print!(rt; " blank")?;
     }
     batches_in(rt, &[5, 2, 3, 7, 1], tag, lower, upper)
