@@ -1,9 +1,0 @@
--- Invariant: the end is the slice's length, so each place read lies within it. The places left fall.
-use Rattle.std.proofs.Common.{◌≡◌, ◌-◌, length}
-use Rattle.refusals.proofs.spans.held.Given as goal
-
-abbrev pub invariant-loop-i : goal.invariant-loop-i
-invariant-loop-i l = l.i-end ≡ length l.s
-
-abbrev pub decreases-loop-i : goal.decreases-loop-i
-decreases-loop-i l = l.i-end - l.i
