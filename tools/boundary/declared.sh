@@ -57,7 +57,12 @@ diff "$made/in_header" "$made/in_library"
 sed -n 's/^tuple_encoded \(tuple_[a-z0-9_]*\)(.*/\1/p' "$made/calls.c" | sort >"$made/with_zeros"
 printf 'tuple_encode_%s\n' key typed | diff - "$made/with_zeros"
 sed -n 's/^    TUPLE_\([A-Z_]*\) = \([0-9]*\).*/\1 \2/p' include/tuple.h >"$made/numbers_in_header"
-{ echo OK 0; sed -n '/^\/\/ The refusals/,$s/^pub const \([A-Z_]*\): u32 = \([0-9]*\);/\1 \2/p' crates/format/src/lib.rt; } >"$made/numbers_in_library"
+# The library's refusals by their numbers: the arms of `Refusal::number`, their names in capitals.
+{
+    echo OK 0
+    sed -n 's/^ *Refusal::\([A-Za-z]*\)\((_)\)\{0,1\} => \([0-9]*\),$/\1 \3/p' crates/format/src/refusal.rt |
+        sed 's/\([a-z]\)\([A-Z]\)/\1_\2/g' | tr a-z A-Z
+} >"$made/numbers_in_library"
 diff "$made/numbers_in_header" "$made/numbers_in_library"
 grep -rlE 'SEQUENCES|0x100_?0000_?0000|1_?099_?511_?627_?776|(<<|>>) ?40' crates/*/src --include='*.rt' | sort >"$made/split"
 printf 'crates/%s\n' format/src/lib.rt scalar/src/refs.rt | diff - "$made/split"

@@ -15,8 +15,8 @@ struct Search<'a> {
 
 impl<'a> Search<'a> {
     // Does a name of a tank belong to what is looked for? By the bytes: the tank's own tag, and a name that begins so, which a blank never does.
-    fn is_for(self, tag: &[u8], name: &[u8]) -> bool {
-        !blank(name) && tag == self.tank && begins(name, self.start)
+    fn is_for(self, tank: &[u8], name: &[u8]) -> bool {
+        !blank(name) && tank == self.tank && begins(name, self.start)
     }
 }
 
