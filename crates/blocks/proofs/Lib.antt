@@ -5,3 +5,4 @@ pub mod Counts
 pub mod Orders
 pub mod Folds
 pub mod Scans
+pub mod Moves

@@ -28,10 +28,15 @@ pub fn differ_at(a: &[u8], b: &[u8]) -> usize
     past_blocks(word, end, 1, |i| a[i] == b[i])
 }
 
-// How a compares to b.
-#[tactic(auto, using(crate::proofs::Orders::order_cmp))]
+// How a compares to b: by the byte at that place, or by who ends there.
 pub fn compare(a: &[u8], b: &[u8]) -> Ordering
     ensures { order_of result ≡ cmp_bytes a.now b.now }
 {
-    a.cmp(b)
+    let i = differ_at(a, b);
+    match (a.get(i), b.get(i)) {
+        (Some(x), Some(y)) => x.cmp(y),
+        (Some(_), None) => Ordering::Greater,
+        (None, Some(_)) => Ordering::Less,
+        (None, None) => Ordering::Equal,
+    }
 }
