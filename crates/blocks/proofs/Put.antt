@@ -38,6 +38,10 @@ module _ (d : List ℕ) (at : ℕ) where
 pub set_put : (d : List ℕ) (i b : ℕ) → i < length d → set d i b ≡ put d i (b ∷ [])
 set_put d i b h = rw add-one (set_split d i b h)
 
+-- what was put in front stands in front
+pub put_begins : (d s : List ℕ) {m : List ℕ} {n : ℕ} → m ≡ put d 0 s → length s ≡ n → slice 0 n m ≡ s
+put_begins d s {n = n} e h = ap (slice 0 n) e ∙ take_at s (drop (0 + length s) d) n h
+
 -- the next byte of a list, stored behind those that were put
 pub put_next : (d : List ℕ) (at : ℕ) (s : List ℕ) (k : ℕ) {d₁ : List ℕ} → k < length s → at + length s ≤ length d → d₁ ≡ put d at (take k s) → set d₁ (at + k) (get_or s k 0) ≡ put d at (take (k + 1) s)
 put_next d at s k {d₁} h l e =
