@@ -1,6 +1,6 @@
 // The character at a place.
 ghost use Rattle.std.specs.Prelude.{◌≡◌, drop};
-ghost use Rattle.format.specs.Utf8.{first_char};
+ghost use Rattle.format.specs.Utf8.{first_char, width_of};
 ghost use Rattle.text.specs.Characters.{char_of};
 
 use super::sequences::{code_of_2, code_of_3, code_of_4, four, three, two};
@@ -37,4 +37,14 @@ pub fn char_at(s: &[u8], at: usize) -> Option<Character>
         return Some(Character { width: 4, code });
     }
     None
+}
+
+// The width of the character at `at`, 1 to 4; 0 if there is none.
+pub fn char_width(s: &[u8], at: usize) -> usize
+    ensures { result ≡ width_of (first_char (drop at s.now)) }
+{
+    match char_at(s, at) {
+        Some(c) => c.width,
+        None => 0,
+    }
 }

@@ -6,5 +6,5 @@ mod sequences;
 mod threes;
 mod whole;
 
-pub use characters::{Character, char_at};
+pub use characters::{Character, char_at, char_width};
 pub use whole::valid;
