@@ -108,14 +108,14 @@ module _ {ty : List ℕ} {at tag left : ℕ} (us : Alts) {e : ℕ} (s : TypeIn t
           record {
             t = c.0;
             more = c.1;
-            end = k.0;
-            here = k.1;
-            behind = k.2;
-            count = k.3;
+            end = k.1;
+            here = k.2;
+            behind = k.3;
+            count = k.4;
             deep = omega (arith, m.0);
             deeps = omega (arith, m.1);
             on = omega (arith, s.span.long);
-            later = omega (arith, k.1.span.long, k.2.span.long, s.span.long);
+            later = omega (arith, k.2.span.long, k.3.span.long, s.span.long);
             meaning = f;
           }
       go none q f k = let z : ◌≡◌ {A = ℕ} 0 1 = cc in absurd (omega arith)

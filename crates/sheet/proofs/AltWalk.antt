@@ -121,7 +121,7 @@ module _ (w : List ℕ) (at tag : ℕ) where
           let f = inv.rest us e s d in
           let n = next some_left f.1 in
           let z = at_tag f.2 n.is (sym n.word ∙ h) in (
-            rw z.0 (place + 1 + length (ty_words n.type), n.stands, n.rest.stand, n.rest.count),
+            rw z.0 (omega arith, place + 1 + length (ty_words n.type), n.stands, n.rest.stand, n.rest.count),
             z.1,
           ))
 

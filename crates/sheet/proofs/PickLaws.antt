@@ -43,4 +43,4 @@ module _ {ty : List ℕ} {at tag left : ℕ} {place : std.Option ℕ} (h : Picks
       go none q k = absurd (none-some p (sym k))
       go (some c) q k =
           let m = chosen_nesting us tag c q in
-          record { type = c.0; more = c.1; is = q; end = k.0; here = k.1; behind = k.2; count = k.3; deep = omega (arith, m.0); deeps = omega (arith, m.1) }
+          record { type = c.0; more = c.1; is = q; end = k.1; here = k.2; behind = k.3; count = k.4; deep = omega (arith, m.0); deeps = omega (arith, m.1) }

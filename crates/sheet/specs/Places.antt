@@ -1,5 +1,5 @@
 -- What the walks over sheets answer: places, as the code has them, for the words that are left.
-use Rattle.std.specs.Prelude.{ℕ, ◌+◌, ◌≤◌, List, ◌≡◌, length, drop, Option, Some, None}
+use Rattle.std.specs.Prelude.{ℕ, ◌+◌, ◌≤◌, ◌<◌, List, ◌≡◌, length, drop, Option, Some, None}
 use Rattle.std.proofs.Math.Option as maths
 use Rattle.format.specs.Tree.{Ty, Tys, Alts}
 use Rattle.format.specs.Sheet.{field_count, alt_count}
@@ -45,7 +45,7 @@ pub record SkipsAlts (w : List ℕ) (p l r : ℕ) : Type 0 where
 
 -- o is the place of the type that was chosen, with l alternatives behind it, up to e; None where there is none
 abbrev pub Chosen : List ℕ → ℕ → Option ℕ → ℕ → maths.Option (Ty × Alts) → Type 0
-Chosen w e (Some r) l (maths.some c) = (m : ℕ) × TypeIn w r c.0 m × AltsIn w m c.1 e × (alt_count c.1 ≡ l)
+Chosen w e (Some r) l (maths.some c) = (0 < r) × (m : ℕ) × TypeIn w r c.0 m × AltsIn w m c.1 e × (alt_count c.1 ≡ l)
 Chosen w e None l (maths.some c) = ⊥
 Chosen w e o l maths.none = o ≡ None
 
