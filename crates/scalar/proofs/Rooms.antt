@@ -5,8 +5,8 @@ use Rattle.format.specs.Answer.{ok, refused, shown}
 use Rattle.format.specs.Refusals.{Leaves, number_of, detail_of}
 use Rattle.format.specs.declared.refusal.Refusal.{Refusal}
 use Rattle.format.specs.declared.refusal.Refusal.TheVariants as made
-use Rattle.format.specs.Scalar.{escaped}
-use Rattle.format.specs.Fields.{put, put_at, put_str_call}
+use Rattle.format.specs.Scalar.{escaped, width, magnitude, be, neg_bytes}
+use Rattle.format.specs.Fields.{put, put_at, put_str_call, put_u64_call, put_i64_call}
 use Rattle.format.specs.Utf8.{utf8}
 use Rattle.blocks.proofs.Put.{set_put_cons}
 use Rattle.scalar.specs.Answers.{room_for}
@@ -14,6 +14,7 @@ use Rattle.scalar.specs.Runs.{WritesRun}
 use Rattle.scalar.specs.declared.runs.Written.{Written}
 use Rattle.scalar.proofs.Marking.{no_ok}
 use Rattle.scalar.proofs.Cases.{by_test}
+use Rattle.scalar.proofs.Widths.{length_be, int_pos, int_neg}
 
 -- as a saturating sum shows it
 shown_min : (n : ℕ) → min n (2 ^ 64 - 1) ≡ shown n
@@ -100,3 +101,31 @@ module _ (d : List ℕ) (at : ℕ) (s : List ℕ) (t : Bool) (e : t ≡ utf8 s) 
   pub put_no_text : t ≡ false → Leaves (put_str_call d at s) (Err made.BadString) d
   unfolding put_str_call
   put_no_text h = rw (sym e ∙ h) (record { answer = refl; left = refl })
+
+-- ---- a word, by its sign
+
+pub put_pos : (d : List ℕ) (at w : ℕ) {a : Result ℕ Refusal} {d' : List ℕ} → w < 2 ^ 63 → Leaves (put_u64_call d at w) a d' → Leaves (put_i64_call d at w) a d'
+unfolding put_u64_call put_i64_call
+put_pos d at w h p = rw (int_pos h) p
+
+-- the bytes of a negative one, by its magnitude and their width
+module _ (d : List ℕ) (at w m k : ℕ) (h : 2 ^ 63 ≤ w) (e : m ≡ magnitude w) (f : k ≡ width m) where
+  abbrev neg : List ℕ
+  neg = (0x48 - k) ∷ be k (2 ^ 64 - 1 - m)
+
+  neg_long : 1 + k ≡ length neg
+  neg_long = omega (arith, length_be k (2 ^ 64 - 1 - m))
+
+  pub put_neg : {a : Result ℕ Refusal} {d' : List ℕ} → Leaves (put_at d at neg) a d' → Leaves (put_i64_call d at w) a d'
+  unfolding put_i64_call neg_bytes
+  put_neg p = rw (int_neg h, ← e, ← f) p
+
+  module _ {i : ℕ} (p : ok i ≡ room_for (length d) at (1 + k)) where
+    pub neg_room : at + (k + 1) ≤ length d
+    neg_room = omega (arith, put_room d at (1 + k) neg neg_long p, neg_long)
+
+    pub neg_done : {r : ℕ} {d' : List ℕ} → (r ≡ at + (k + 1)) × (d' ≡ put d at neg) → Leaves (put_i64_call d at w) (Ok r) d'
+    neg_done v = put_neg (put_done d at (1 + k) neg neg_long p (omega (arith, v.0, neg_long)) v.1)
+
+  pub neg_none : (x : Refusal) → refused (number_of x) (detail_of x) ≡ room_for (length d) at (1 + k) → Leaves (put_i64_call d at w) (Err x) d
+  neg_none x p = put_neg (put_none d at (1 + k) neg neg_long x p)

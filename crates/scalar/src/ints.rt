@@ -195,6 +195,7 @@ fn get_negative(bytes: &[u8]) -> Result<Taken<u64>, Refusal>
 }
 
 // Reads a signed integer as its word.
+#[inline(always)] // as a call, which answers through memory, a short one takes up to half as long again
 pub fn get_i64(bytes: &[u8]) -> Result<Taken<u64>, Refusal>
     ensures { got_int result ≡ get_i64_call bytes.now }
 {
