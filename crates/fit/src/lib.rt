@@ -184,6 +184,7 @@ pub fn fit_value(
 
 // The n fields of a record, from these places on.
 #[cycle(fits)]
+#[inline(always)] // as a call of its own it costs a value of nested records a quarter
 pub fn fit_fields(
     ty: &[u32],
     words: &[u64],
