@@ -18,8 +18,7 @@ use Rattle.format.specs.Calls.{check_key_call}
 use Rattle.format.specs.Keylist.{max_input, Line, lines_of, in_line, add, below, decimal_from, word_of, words_of, parts_of, widen, key_in, type_in}
 use Rattle.format.specs.Keylist.{digits, decimal, row, answer_row, key_row, key_rows, no_type, under_type, rows, keylist}
 use Rattle.keylines.specs.Reasons.{has, bad_word, admits, in_words, in_text, in_lines, reason}
-use Rattle.keylines.specs.Answers.{TypeRead, FirstIs, FirstRead, Found, FoundAt, WordsAre, WordsRead, TooMany, TypeTaken, TypedIs, TypedRead, Counts}
-use Rattle.keylines.specs.declared.first.First.{First}
+use Rattle.keylines.specs.Answers.{FirstRead, Found, FoundAt, WordsRead, TypeTaken, TypedRead, Counts}
 use Rattle.keylines.specs.declared.reason.Reason.{Reason}
 use Rattle.keylines.proofs.TextLaws.{line_here, line_left, found_has, found_has_not}
 

@@ -1,6 +1,6 @@
 -- Laws of a row, of the rows of key lines, and of a piece of them.
-use Rattle.std.specs.Prelude.{Option, Some, None, Result, Ok, Err}
-use mathlib.Core.Path.{◌≡◌, refl, sym, ap, subst, ◌∙◌}
+use Rattle.std.specs.Prelude.{Some, None, Result, Ok, Err}
+use mathlib.Core.Path.{◌≡◌, refl, sym, ap, ◌∙◌}
 use mathlib.Core.List.{List, [], ◌∷◌, ◌++◌, append_assoc}
 use Prim.Native.Nat.{ℕ, ◌+◌, ◌-◌, ◌*◌, ◌^◌, ◌≤◌, ◌<◌}
 use native.Mathlib.Nat.{zero-add}
@@ -9,12 +9,10 @@ use lib.ListN.{length, take, drop, set, length-append, drop_of_length-le}
 use lib.Seq.{sets-eq, take_at, drop_at}
 use Rattle.format.specs.Calls.{Checked, check_key_call}
 use Rattle.format.specs.Keylist.{Line, lines_of, in_line, key_in, decimal, row, answer_row, key_row, key_rows, no_type}
-use Rattle.format.specs.Refusals.{number_of, detail_of}
-use Rattle.format.specs.declared.refusal.Refusal.{Refusal}
 use Rattle.format.specs.declared.refusal.Refusal.TheVariants as made
 use Rattle.read.specs.declared.Refused.{Refused}
 use Rattle.decode.specs.Answers.{checked_of}
-use Rattle.keylines.specs.Answers.{Counts, rows_left, PieceAsked, FrontPut, PiecePut, NoTypePut, Found, key_is, key_counts, KeyRead, row_of, KeyTold, LineTold, Put, RowPut, NumberPut}
+use Rattle.keylines.specs.Answers.{rows_left, PieceAsked, FrontPut, PiecePut, NoTypePut, Found, KeyRead, row_of, KeyTold, LineTold, Put, RowPut, NumberPut}
 use Rattle.keylines.specs.declared.pieces.Left.{Left}
 use Rattle.keylines.specs.declared.pieces.Line as told
 use Rattle.keylines.specs.declared.pieces.Piece.{Piece}

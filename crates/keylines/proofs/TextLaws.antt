@@ -8,11 +8,10 @@ use Prim.Native.Nat.{ℕ, suc, ◌+◌, ◌-◌, ◌≤◌, ◌<◌}
 use native.Mathlib.Omega.{arith}
 use borrow.Author.Tests.{eq-eqb, ne_eqb}
 use lib.Dec.{ltb, eqb}
-use lib.ListN.{length, take, drop, get_or, drop_of_length-le, length-drop}
+use lib.ListN.{length, take, drop, length-drop}
 use lib.Seq.{drop-drop}
 use Rattle.format.specs.Answer.{if}
 use Rattle.format.specs.Keylist.{lines_of, longer, parts_of, widen}
-use Rattle.format.proofs.SheetPlaces.{front}
 use Rattle.format.proofs.Tests.{Test, holds, fails, ltb_test}
 use Rattle.keylines.specs.Reasons.{has}
 use Rattle.keylines.specs.Answers.{before, Found, FoundAt}

@@ -5,7 +5,7 @@ ghost use Rattle.keylines.specs.Answers.{NoTypePut, KeyTold, LineAsked, LineTold
 
 use crate::finding::find;
 use crate::keys::pairs;
-use crate::rows::{MAX_ROW, put_row};
+use crate::rows::{MAX_ROW, put_told};
 use decode::Refused;
 use format::Refusal;
 
@@ -84,7 +84,7 @@ pub fn put_piece(
     let mut len = 0;
     while at < input.len() && MAX_ROW <= PIECE_ROOM - len {
         let row = tell_line(input, at, ty, key);
-        len = put_row(piece, len, line, row.told);
+        len = put_told(piece, len, line, row.told);
         at = row.next;
         line += 1;
     }
@@ -100,5 +100,5 @@ pub fn put_no_type(piece: &mut [u8; PIECE_ROOM]) -> usize
         why: Refusal::BadType,
         begun: 0,
     };
-    put_row(piece, 0, 0, Err(no_type))
+    put_told(piece, 0, 0, Err(no_type))
 }

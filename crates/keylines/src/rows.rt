@@ -29,29 +29,29 @@ fn put_number(out: &mut [u8], at: usize, n: u64, behind: u8) -> usize
     end + 1
 }
 
-// No row is longer.
-pub const MAX_ROW: usize = 59;
-
-// A row's numbers.
-fn put_numbers(out: &mut [u8], at: usize, place: u64, no: u32, detail: u64, begun: usize) -> usize
-    requires { (place < 100000) × (at + MAX_ROW ≤ length out.old) }
-    ensures { RowPut out.old out.new at result (row place no detail begun) }
+// The row of a line: its place, refusal, detail and values begun.
+pub fn put_row(out: &mut [u8], at: usize, place: u64, no: u32, detail: u64, begun: u64) -> usize
+    requires { at + length (row place no detail begun) ≤ length out.old }
+    ensures { Put out.old out.new at result (row place no detail begun) }
 {
     let a = put_number(out, at, place, b'\t');
     let b = put_number(out, a, u64::from(no), b'\t');
     let c = put_number(out, b, detail, b'\t');
-    put_number(out, c, begun as u64, b'\n')
+    put_number(out, c, begun, b'\n')
 }
 
-// The row of a line: its place, and the values begun or the refusal as well.
-pub fn put_row(out: &mut [u8], at: usize, place: u64, told: Result<usize, Refused>) -> usize
+// No row of a line that keylist reads is longer.
+pub const MAX_ROW: usize = 59;
+
+// The row of what a line tells, where the longest has room.
+pub fn put_told(out: &mut [u8], at: usize, place: u64, told: Result<usize, Refused>) -> usize
     requires { (place < 100000) × (at + MAX_ROW ≤ length out.old) }
     ensures { RowPut out.old out.new at result (row_of place told) }
 {
     match told {
-        Ok(begun) => put_numbers(out, at, place, 0, 0, begun),
+        Ok(begun) => put_row(out, at, place, 0, 0, begun as u64),
         Err(Refused { why, begun }) => {
-            put_numbers(out, at, place, why.number(), why.detail(), begun)
+            put_row(out, at, place, why.number(), why.detail(), begun as u64)
         }
     }
 }

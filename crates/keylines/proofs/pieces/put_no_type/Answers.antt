@@ -4,4 +4,4 @@ use Rattle.keylines.proofs.RowLaws as laws
 use Rattle.keylines.proofs.pieces.put_no_type.Goals as goal
 
 pub returns : goal.returns
-returns c = laws.no_type_put c.put_row.ensures (omega arith)
+returns c = laws.no_type_put c.put_told.ensures (omega arith)
