@@ -7,6 +7,7 @@ mod rows; // rows.rt: calls worked by hand
 mod searches; // searches.rt: names looked for among keys
 
 fn main(rt: HostRuntime) -> std::io::Result<()> {
+    let rt = show::Out(rt);
     let mut table = [0u8; 4096];
     let n = io::read_full(0, &mut table);
     rows::rows(&rt, show::first(&table, n))?;

@@ -5,6 +5,7 @@
 ghost use Rattle.keylines.specs.Answers.{Counts, PieceAsked};
 
 use keylines::{First, KEY_ROOM, Left, MAX_INPUT, PIECE_ROOM};
+use std::fmt::Display;
 use std::io;
 use std::io::{Read, Stdin, Write};
 
@@ -27,7 +28,7 @@ fn read_input(mut from: Stdin, buf: &mut [u8]) -> (usize, io::Result<()>)
 fn write_no_type(rt: &impl Print) -> io::Result<()> {
     let mut piece = [0; PIECE_ROOM];
     let n = keylines::put_no_type(&mut piece);
-    io::writer(rt).write_all(&piece[..n])
+    show::put(&mut io::writer(rt), &piece[..n])
 }
 
 // Writes the rows of the key lines, piece by piece.
@@ -39,19 +40,28 @@ fn write_rows(rt: &impl Print, input: &[u8], lines: Left, ty: &[u32]) -> io::Res
     let mut left = lines;
     while left.at < input.len() {
         let put = keylines::put_piece(input, left, ty, &mut key, &mut piece);
-        io::writer(rt).write_all(&piece[..put.len])?;
+        show::put(&mut io::writer(rt), &piece[..put.len])?;
         left = put.left;
     }
     Ok(())
 }
 
+// Says it on a line: in one write, which is tried once and dropped where it fails.
+fn say<D: Display + Drop>(err: &impl Print, text: D) {
+    let mut room = [0; 160];
+    let mut rest = room.as_mut_slice();
+    let _ = writeln!(rest, "keylist: {text}");
+    let said = 160usize.saturating_sub(rest.len());
+    let _ = show::put(&mut io::writer(err), show::first(&room, said));
+}
+
 // Writes what is due for an input; why it has no type is said on a line of its own.
-fn answer(rt: &(impl Print + Eprint), input: &[u8]) -> io::Result<()> {
+fn answer(rt: &impl Print, err: &impl Print, input: &[u8]) -> io::Result<()> {
     let mut ty = [0; format::MAX_TYPE_WORDS];
     match keylines::read_first(input, &mut ty) {
         Ok(First { words, left }) => write_rows(rt, input, left, &ty[..words]),
         Err(why) => {
-            let _ = eprintln!(rt; "keylist: no type: {why}");
+            say(err, format_args!("no type: {why}"));
             write_no_type(rt)
         }
     }
@@ -60,11 +70,12 @@ fn answer(rt: &(impl Print + Eprint), input: &[u8]) -> io::Result<()> {
 // What was read is the input, also where a read failed: then this is said beside the answer. One byte more than is taken is read, so that too long an input shows.
 fn main(rt: HostRuntime) {
     let mut input = [0; MAX_INPUT + 1];
+    let err = rt.stderr();
     let (n, end) = read_input(rt.stdin(), &mut input);
     if end.is_err() {
-        let _ = eprintln!(rt; "keylist: standard input can't be read to its end");
+        say(&err, "standard input can't be read to its end");
     }
-    if answer(&rt, &input[..n]).is_err() {
-        let _ = eprintln!(rt; "keylist: standard output can't be written");
+    if answer(&rt, &err, &input[..n]).is_err() {
+        say(&err, "standard output can't be written");
     }
 }

@@ -7,7 +7,7 @@ ghost use Rattle.names.specs.Steps.{start, with, Gives, Shows};
 
 use format::Refusal;
 use scalar::{Place, Taken};
-use show::Hex;
+use show::{Hex, Out};
 use std::io;
 
 // How many steps are taken of each name: the cells of the panel.
@@ -129,7 +129,7 @@ fn short_line(rt: &impl Print, name: &[u8]) -> io::Result<()> {
 }
 
 fn main(rt: HostRuntime) -> io::Result<()> {
-    let rt = &rt;
+    let rt = &Out(rt);
     // plain: one character, a name longer than the panel, the empty name
     name_line(rt, b"\x21\x41\x00")?;
     name_line(rt, b"\x21ultramarine blue\x00")?;

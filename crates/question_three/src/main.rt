@@ -2,7 +2,7 @@
 // where its key lies between the tank's two ends. Then the same for tags that end in a zero.
 #![tactic(auto)]
 
-use show::{Hex, first};
+use show::{Hex, Out, first};
 use std::io;
 
 // The answer for one batch, with its reason.
@@ -72,6 +72,7 @@ fn question(rt: &impl Print, tank: &[u8], first: &[u8], second: &[u8]) -> io::Re
 }
 
 fn main(rt: HostRuntime) -> io::Result<()> {
+    let rt = Out(rt);
     question(&rt, b"\x0a", b"\x0a", b"\x0b")?;
     question(&rt, b"\x0a", b"\x0a", b"\x0a\x00")?;
     question(&rt, b"\x0a\x00", b"\x0a", b"\x0a\x00")?;

@@ -7,7 +7,8 @@ use std::cmp::Ordering;
 use std::io;
 
 pub fn encoded(rt: &impl Print, r: Result<Encoded, Refusal>, out: &[u8]) -> io::Result<()> {
-    show::line(rt, r.map(|done| done.length), out)
+    show::line(rt, r.map(|done| done.length), out);
+    Ok(())
 }
 
 // A value encoded with room for sixteen bytes.

@@ -9,21 +9,22 @@ use crate::lines::{
     bounds_line, compare_line, decode_key_line, decode_line, encode_line, encoded, encoded_length,
     key_line, skip_line,
 };
-use show::Hex;
+use show::{Hex, Out};
 use std::io;
 
 // A field of the key 53 0A 00 49 07 replaced by an integer.
 fn replace_line(rt: &impl Print, field: usize, words: &[u64]) -> io::Result<()> {
     let mut buffer = [0x53, 0x0a, 0, 0x49, 7, 0xee, 0xee];
     let r = key::replace(&[5, 2, 3, 1], &mut buffer, 5, field, words, b"");
-    show::line(rt, r, &buffer)?;
+    show::line(rt, r, &buffer);
     println!(rt; "{}", Hex(&buffer))
 }
 
 fn strinc_line(rt: &impl Print, prefix: &[u8]) -> io::Result<()> {
     let mut out = [0u8; 8];
     let r = ends::strinc(prefix, &mut out);
-    show::line(rt, r, &out)
+    show::line(rt, r, &out);
+    Ok(())
 }
 
 fn unexpected_eof(rt: &impl Print) -> io::Result<()> {
@@ -223,6 +224,7 @@ fn longest_key(rt: &impl Print) -> io::Result<()> {
 }
 
 fn main(rt: HostRuntime) -> io::Result<()> {
+    let rt = Out(rt);
     of_the_bytes(&rt)?;
     of_the_value(&rt)?;
     of_the_port(&rt)?;

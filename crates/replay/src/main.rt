@@ -159,6 +159,7 @@ fn read(room: &mut [u8; 1048576]) -> usize
 }
 
 fn main(rt: HostRuntime) -> std::io::Result<()> {
+    let rt = show::Out(rt);
     let mut room = [0; 1048576];
     let n = read(&mut room);
     let counts = counts(&rt, &room[..n])?;

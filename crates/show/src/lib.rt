@@ -1,10 +1,13 @@
-// What the test programs print: bytes in hexadecimal, and the beginning of a buffer or the refusal.
+// What the test programs print: bytes in hexadecimal, and the beginning of a buffer or the refusal; and where they print it.
 #![tactic(auto)]
+
+mod printing; // printing.rt: standard output, of which a failed write is dropped
 
 ghost use Rattle.std.specs.Prelude.{◌≡◌, take, IfOk};
 ghost use Rattle.show.specs.Wrote.{wrote_by};
 
 use format::Refusal;
+pub use printing::{Out, put};
 use std::{fmt, io};
 
 /// Bytes in hexadecimal.
@@ -27,12 +30,12 @@ pub fn first(s: &[u8], n: usize) -> &[u8]
     s.get(..n).unwrap_or(s)
 }
 
-// What a call wrote at a buffer's beginning, or its refusal, on a line.
-pub fn line(rt: &impl Print, answer: Result<usize, Refusal>, out: &[u8]) -> io::Result<()> {
-    match answer {
+// What a call wrote at a buffer's beginning, or its refusal, on a line. A line that can't be written is dropped.
+pub fn line(rt: &impl Print, answer: Result<usize, Refusal>, out: &[u8]) {
+    let _ = match answer {
         Ok(n) => println!(rt; "{}", Hex(first(out, n))),
         Err(e) => println!(rt; "{e}"),
-    }
+    };
 }
 
 // The bytes that a call wrote at a buffer's beginning; none of a refused one, which is printed.

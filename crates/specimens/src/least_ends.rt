@@ -8,7 +8,8 @@ fn end_line(rt: &impl Print, prefix: &[u8], out: &mut [u8]) -> io::Result<()> {
     }
     print!(rt; "{}: ", Hex(prefix))?;
     let r = ends::strinc(prefix, out);
-    show::line(rt, r, out)
+    show::line(rt, r, out);
+    Ok(())
 }
 
 pub fn least_ends(rt: &impl Print) -> io::Result<()> {

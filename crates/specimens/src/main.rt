@@ -6,14 +6,15 @@ mod optional; // optional.rt: word 7 on type sheets
 mod searches; // searches.rt: the search for a discriminant, and how many alternatives it looks at
 
 use scalar::{Taken, UnionTag};
-use show::{Hex, first};
+use show::{Hex, Out, first};
 use std::io;
 
 // An integer written into a buffer of its own.
 fn int_line(rt: &impl Print, w: u64) -> io::Result<()> {
     let mut buf = [0u8; 9];
     let r = scalar::put_i64(&mut buf, 0, w);
-    show::line(rt, r, &buf)
+    show::line(rt, r, &buf);
+    Ok(())
 }
 
 // An integer read: its word and the bytes it took.
@@ -27,7 +28,8 @@ fn get_line(rt: &impl Print, s: &[u8]) -> io::Result<()> {
 fn str_line(rt: &impl Print, s: &[u8]) -> io::Result<()> {
     let mut buf = [0u8; 16];
     let r = scalar::put_str(&mut buf, 0, s);
-    show::line(rt, r, &buf)
+    show::line(rt, r, &buf);
+    Ok(())
 }
 
 // A string read: its payload, in the key or in the scratch buffer.
@@ -42,7 +44,8 @@ fn text_line(rt: &impl Print, key: &[u8], scratch: &mut [u8]) -> io::Result<()> 
 fn strinc_line(rt: &impl Print, prefix: &[u8]) -> io::Result<()> {
     let mut buf = [0u8; 8];
     let r = ends::strinc(prefix, &mut buf);
-    show::line(rt, r, &buf)
+    show::line(rt, r, &buf);
+    Ok(())
 }
 
 fn integers(rt: &impl Print) -> io::Result<()> {
@@ -112,6 +115,7 @@ fn others(rt: &impl Print) -> io::Result<()> {
 }
 
 fn main(rt: HostRuntime) -> io::Result<()> {
+    let rt = Out(rt);
     integers(&rt)?;
     readings(&rt)?;
     strings(&rt)?;

@@ -1,7 +1,7 @@
 // How many zeros were escaped, as the two encoding calls show it. Each line has a call, its refusal, detail, length and zeros, and the bytes it wrote.
 #![tactic(auto)]
 
-use show::{Hex, first};
+use show::{Hex, Out, first};
 use std::io;
 use tuple::answers::Encoded;
 use tuple::sheets;
@@ -129,6 +129,7 @@ fn many(rt: &impl Print) -> io::Result<()> {
 }
 
 fn main(rt: HostRuntime) -> io::Result<()> {
+    let rt = Out(rt);
     runs(&rt)?;
     others(&rt)?;
     sums(&rt)?;

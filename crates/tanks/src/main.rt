@@ -7,7 +7,7 @@ mod keys; // keys.rt: keys, and whether one lies between two ends
 mod spans; // spans.rt: spans on the next field, and the batches that they take in
 
 use crate::keys::{between, key};
-use show::{Hex, first};
+use show::{Hex, Out, first};
 use std::io;
 
 fn taken_in(rt: &impl Print, a: bool, b: bool) -> io::Result<()> {
@@ -132,6 +132,7 @@ fn recipe_lines(rt: &impl Print) -> io::Result<()> {
 }
 
 fn main(rt: HostRuntime) -> io::Result<()> {
+    let rt = Out(rt);
     println!(rt; "tanks 0A and 0A 00")?;
     pair(
         &rt,
