@@ -46,7 +46,7 @@ fn write_rows(rt: &impl Print, input: &[u8], lines: Left, ty: &[u32]) -> io::Res
     Ok(())
 }
 
-// Says it on a line: in one write, which is tried once and dropped where it fails.
+// Says it on a line: in one write, which is tried once and dropped where it fails. The longest line, of a bad word, has 133 bytes.
 fn say<D: Display + Drop>(err: &impl Print, text: D) {
     let mut room = [0; 160];
     let mut rest = room.as_mut_slice();
